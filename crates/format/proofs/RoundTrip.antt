@@ -1,0 +1,321 @@
+-- The round trip: a well-formed container is the encoding of its parts, and valid parts are those of their encoding. Assumes nothing.
+use mathlib.Core.Path.{_≡_, refl, sym, ap, _∙_}
+use mathlib.Core.Bool.{true}
+use mathlib.Core.List.{List, [], _∷_, _++_}
+use Prim.Native.Nat.{ℕ, zero, suc, _+_, _-_, _*_, _^_, _≤_}
+use native.Mathlib.Omega.{arith}
+use lib.ListN.{length, take, drop, replicate, length-append, length-drop, length-replicate, take-append-drop}
+use lib.Seq.{length-take-le, drop-drop, take-at, drop-at}
+use Rattle.octets.specs.Numbers.{numberAfter, number, numberAt, digits}
+use Rattle.octets.specs.Strings.{Octets, allZero, join}
+use Rattle.octets.proofs.NumberLaws.{length-digits, number-digits, digits-number}
+use Rattle.octets.proofs.StringLaws.{same-eq, same-refl, zeros-are, allZero-replicate, octets-take, octets-drop}
+use Rattle.format.specs.Container.{magic, least, limit, nodeAt, enablerAt, sizeAt, offsetAt, leasesAt, dataAt, countAt, usedLength, nodeOf, enablerOf, sizeOf, dataOf, extrasOf, records, leasesOf, ownerOf, held, recordOk, recordsOk, lastHeld, wellFormed}
+use Rattle.format.specs.Parts.{Parts, extras, used, partsOf, encode, Place, Each, Valid, noLease, fresh}
+use Rattle.format.proofs.WellFormed.{both, Fields, Contents, formed-facts, formed-true, count-is, used-is, length-records, records-shift, length-leases, join-records, length-join, records-join, data-length}
+
+-- ---- Each
+pub each-append : {A : Type 0} (P : A → Type 0) (a b : List A) → Each P a → Each P b → Each P (a ++ b)
+each-append P [] b h k = k
+each-append P (x ∷ a) b h k = (h .0, each-append P a b (h .1) k)
+
+pub each-take : {A : Type 0} (P : A → Type 0) (n : ℕ) (ls : List A) → Each P ls → Each P (take n ls)
+each-take P zero ls h = tt
+each-take P (suc n) [] h = h
+each-take P (suc n) (x ∷ ls) h = (h .0, each-take P n ls (h .1))
+
+pub each-drop : {A : Type 0} (P : A → Type 0) (n : ℕ) (ls : List A) → Each P ls → Each P (drop n ls)
+each-drop P zero ls h = h
+each-drop P (suc n) [] h = h
+each-drop P (suc n) (x ∷ ls) h = each-drop P n ls (h .1)
+
+-- ---- lease places and the test on records
+pub places-sizes : (ls : List (List ℕ)) → Each Place ls → Each (λ r. length r ≡ 92) ls
+places-sizes [] h = h
+places-sizes (r ∷ ls) h = (h .0 .size, places-sizes ls (h .1))
+
+pub places-ok : (ls : List (List ℕ)) → Each Place ls → recordsOk ls ≡ true
+unfolding recordsOk
+places-ok [] h = refl
+places-ok (r ∷ ls) h = rw (h .0 .ok) (places-ok ls (h .1))
+
+pub ok-places : (ls : List (List ℕ)) → Each (λ r. length r ≡ 92) ls → recordsOk ls ≡ true → Each Place ls
+unfolding recordsOk
+ok-places [] h e = h
+ok-places (r ∷ ls) h e =
+    let k = both _ _ e in
+    (record { size = h .0; ok = k .0 }, ok-places ls (h .1) (k .1))
+
+pub records-sizes : (n p : ℕ) (c : List ℕ) → p + 92 * n ≤ length c → Each (λ r. length r ≡ 92) (records n p c)
+unfolding records
+records-sizes zero p c h = tt
+records-sizes (suc n) p c h = (length-take-le 92 (drop p c) (rw length-drop (omega arith)), records-sizes n (p + 92) c (omega arith))
+
+-- ---- the leases of a container: the four, then the extras
+pub four-leases : (c : List ℕ) → take 4 (leasesOf c) ≡ records 4 leasesAt c
+unfolding leasesOf
+four-leases c = take-at (records 4 leasesAt c) (records (extrasOf c) (countAt (sizeOf c) + 4) c) 4 (length-records 4 leasesAt c)
+
+pub extra-leases : (c : List ℕ) → drop 4 (leasesOf c) ≡ records (extrasOf c) (countAt (sizeOf c) + 4) c
+unfolding leasesOf
+extra-leases c = drop-at (records 4 leasesAt c) (records (extrasOf c) (countAt (sizeOf c) + 4) c) 4 (length-records 4 leasesAt c)
+
+pub leases-sizes : (c : List ℕ) → usedLength (sizeOf c) (extrasOf c) ≤ length c → Each (λ r. length r ≡ 92) (leasesOf c)
+unfolding leasesOf
+leases-sizes c h =
+    let u = used-is (sizeOf c) (extrasOf c) in
+    let k = count-is (sizeOf c) in
+    each-append _ (records 4 leasesAt c) _ (records-sizes 4 leasesAt c (omega arith)) (records-sizes (extrasOf c) (countAt (sizeOf c) + 4) c (omega arith))
+
+-- ---- from the bytes: the parts are valid
+pub parts-used : (c : List ℕ) → wellFormed c ≡ true → used (partsOf c) ≡ usedLength (sizeOf c) (extrasOf c)
+unfolding used extras partsOf
+parts-used c w =
+    let k : 4 + extrasOf c - 4 ≡ extrasOf c = omega arith in
+    rw (data-length c w, length-leases c, k)
+
+pub parts-valid : (c : List ℕ) → wellFormed c ≡ true → Valid (partsOf c)
+unfolding partsOf nodeOf enablerOf
+parts-valid c w =
+    let f = formed-facts c w in
+    let h = f .fields in
+    let l = length-leases c in
+    let n : least ≤ length c = f .least-length in
+    record {
+      at-least = n;
+      at-most = f .most;
+      node-size = length-take-le 20 (drop nodeAt c) (rw length-drop (omega arith));
+      enabler-size = length-take-le 32 (drop enablerAt c) (rw length-drop (omega arith));
+      four = omega arith;
+      few = omega arith;
+      places = ok-places (leasesOf c) (leases-sizes c (h .fits)) (f .contents .records);
+      last = f .contents .last;
+      fits = rw (parts-used c w) (h .fits);
+    }
+
+-- ---- from the bytes: they are the encoding of the parts
+-- A field of k bytes at a, then what follows it.
+pub field-then : (c : List ℕ) (a k b : ℕ) (x t : List ℕ) → a + k ≡ b → take k (drop a c) ≡ x → drop b c ≡ t → drop a c ≡ x ++ t
+field-then c a k b x t e p q =
+    sym (take-append-drop k (drop a c)) ∙ ap (λ (l : List ℕ). l ++ drop k (drop a c)) p ∙ ap (λ (l : List ℕ). x ++ l) (drop-drop k a c ∙ ap (λ (n : ℕ). drop n c) e ∙ q)
+
+-- The bytes of a field are the digits of its number.
+pub digits-at : (c : List ℕ) (n a v : ℕ) → a + n ≤ length c → Octets c → numberAt n a c ≡ v → take n (drop a c) ≡ digits n v
+unfolding numberAt
+digits-at c n a v h o e =
+    sym (digits-number n (take n (drop a c)) (length-take-le n (drop a c) (rw length-drop (omega arith))) (octets-take n (drop a c) (octets-drop a c o))) ∙ ap (digits n) e
+
+pub size-field : (c : List ℕ) → numberAt 8 sizeAt c ≡ sizeOf c
+unfolding sizeOf
+size-field c = refl
+
+pub extras-field : (c : List ℕ) → numberAt 4 (countAt (sizeOf c)) c ≡ extrasOf c
+unfolding extrasOf
+extras-field c = refl
+
+pub data-field : (c : List ℕ) → take (sizeOf c) (drop dataAt c) ≡ dataOf c
+unfolding dataOf
+data-field c = refl
+
+pub node-field : (c : List ℕ) → take 20 (drop nodeAt c) ≡ nodeOf c
+unfolding nodeOf
+node-field c = refl
+
+pub enabler-field : (c : List ℕ) → take 32 (drop enablerAt c) ≡ enablerOf c
+unfolding enablerOf
+enabler-field c = refl
+
+pub four-field : (c : List ℕ) → take 368 (drop leasesAt c) ≡ join (take 4 (leasesOf c))
+four-field c = sym (ap join (four-leases c) ∙ join-records 4 leasesAt c)
+
+pub extra-field : (c : List ℕ) → take (92 * extrasOf c) (drop (countAt (sizeOf c) + 4) c) ≡ join (drop 4 (leasesOf c))
+extra-field c = sym (ap join (extra-leases c) ∙ join-records (extrasOf c) (countAt (sizeOf c) + 4) c)
+
+pub rest-field : (c : List ℕ) (a : ℕ) → allZero (drop a c) ≡ true → drop a c ≡ replicate (length c - a) 0
+rest-field c a e = zeros-are (drop a c) e ∙ ap (λ (k : ℕ). replicate k 0) (length-drop a c)
+
+-- The table, with the parts as they stand in the container.
+pub laid-out : (c : List ℕ) → wellFormed c ≡ true → Octets c
+    → c ≡ magic ++ (nodeOf c ++ (enablerOf c ++ (digits 8 (sizeOf c) ++ (digits 8 (countAt (sizeOf c)) ++ (join (take 4 (leasesOf c)) ++ (dataOf c ++ (digits 4 (extrasOf c) ++ (join (drop 4 (leasesOf c)) ++ replicate (length c - usedLength (sizeOf c) (extrasOf c)) 0))))))))
+laid-out c w o =
+    let s : ℕ = sizeOf c in
+    let e : ℕ = extrasOf c in
+    let k = count-is s in
+    let u = used-is s e in
+    let f = formed-facts c w in
+    let h = f .fields in
+    let z9 = rest-field c (usedLength s e) (f .contents .zeros) in
+    let z8 = field-then c (countAt s + 4) (92 * e) (usedLength s e) _ _ (omega arith) (extra-field c) z9 in
+    let z7 = field-then c (countAt s) 4 (countAt s + 4) _ _ refl (digits-at c 4 (countAt s) e (omega arith) o (extras-field c)) z8 in
+    let z6 = field-then c dataAt s (countAt s) _ _ (sym k) (data-field c) z7 in
+    let z5 = field-then c leasesAt 368 dataAt _ _ refl (four-field c) z6 in
+    let z4 = field-then c offsetAt 8 leasesAt _ _ refl (digits-at c 8 offsetAt (countAt s) (omega arith) o (h .offset)) z5 in
+    let z3 = field-then c sizeAt 8 offsetAt _ _ refl (digits-at c 8 sizeAt s (omega arith) o (size-field c)) z4 in
+    let z2 = field-then c enablerAt 32 sizeAt _ _ refl (enabler-field c) z3 in
+    let z1 = field-then c nodeAt 20 enablerAt _ _ refl (node-field c) z2 in
+    field-then c 0 32 nodeAt _ _ refl (same-eq (take 32 c) magic (h .magical)) z1
+
+pub encode-parts : (c : List ℕ) → wellFormed c ≡ true → Octets c → encode (partsOf c) ≡ c
+unfolding encode partsOf used extras
+encode-parts c w o =
+    let k : 4 + extrasOf c - 4 ≡ extrasOf c = omega arith in
+    rw (data-length c w, length-leases c, k) (sym (laid-out c w o))
+
+pub parts-determine : (b c : List ℕ) → wellFormed b ≡ true → wellFormed c ≡ true → Octets b → Octets c → partsOf b ≡ partsOf c → b ≡ c
+parts-determine b c wb wc ob oc e = sym (encode-parts b wb ob) ∙ ap encode e ∙ encode-parts c wc oc
+
+-- ---- from the parts
+-- A field read back, and what follows it.
+pub field-back : (c : List ℕ) (k n j : ℕ) (m t : List ℕ) → drop k c ≡ m ++ t → length m ≡ n → k + n ≡ j → (take n (drop k c) ≡ m) × (drop j c ≡ t)
+field-back c k n j m t e l q = (rw e (take-at m t n l), ap (λ (i : ℕ). drop i c) (sym q) ∙ sym (drop-drop n k c) ∙ rw e (drop-at m t n l))
+
+-- Joined records read back.
+pub records-back : (n a : ℕ) (c : List ℕ) (ls : List (List ℕ)) (t : List ℕ) → drop a c ≡ join ls ++ t → length ls ≡ n → Each (λ r. length r ≡ 92) ls → records n a c ≡ ls
+records-back n a c ls t e l h =
+    let k : a ≡ a + 0 = omega arith in
+    ap (λ (i : ℕ). records n i c) k ∙ records-shift n a 0 c ∙ ap (records n 0) e ∙ ap (λ (m : ℕ). records m 0 (join ls ++ t)) (sym l) ∙ records-join ls t h
+
+-- What stands where in the encoding of the parts, with s bytes of data and e extras.
+pub record Written (p : Parts) (s e : ℕ) (c : List ℕ) : Type 0 where
+  pub magical : take 32 c ≡ magic
+  pub node : take 20 (drop nodeAt c) ≡ p .node
+  pub enabler : take 32 (drop enablerAt c) ≡ p .enabler
+  pub size : take 8 (drop sizeAt c) ≡ digits 8 s
+  pub offset : take 8 (drop offsetAt c) ≡ digits 8 (countAt s)
+  pub after-offset : List ℕ
+  pub four : drop leasesAt c ≡ join (take 4 (p .leases)) ++ after-offset
+  pub bytes : take s (drop dataAt c) ≡ p .bytes
+  pub count : take 4 (drop (countAt s) c) ≡ digits 4 e
+  pub more : drop (countAt s + 4) c ≡ join (drop 4 (p .leases)) ++ replicate (p .room - usedLength s e) 0
+  pub rest : drop (usedLength s e) c ≡ replicate (p .room - usedLength s e) 0
+
+module _ (p : Parts) (v : Valid p) where
+  sizes : Each (λ r. length r ≡ 92) (p .leases)
+  sizes = places-sizes (p .leases) (v .places)
+
+  four-long : length (take 4 (p .leases)) ≡ 4
+  four-long = length-take-le 4 (p .leases) (v .four)
+
+  extras-long : length (drop 4 (p .leases)) ≡ extras (p .leases)
+  unfolding extras
+  extras-long = length-drop 4 (p .leases)
+
+  four-bytes : length (join (take 4 (p .leases))) ≡ 368
+  four-bytes = length-join (take 4 (p .leases)) (each-take _ 4 (p .leases) sizes) ∙ rw four-long
+
+  extra-bytes : length (join (drop 4 (p .leases))) ≡ 92 * extras (p .leases)
+  extra-bytes = length-join (drop 4 (p .leases)) (each-drop _ 4 (p .leases) sizes) ∙ rw extras-long
+
+  room-used : usedLength (length (p .bytes)) (extras (p .leases)) ≤ p .room
+  unfolding used
+  room-used = v .fits
+
+  pub length-encode : length (encode p) ≡ p .room
+  unfolding encode used
+  length-encode =
+      simp (length-append, length-digits, length-replicate, four-bytes, extra-bytes, v .node-size, v .enabler-size) (omega (arith, room-used, used-is (length (p .bytes)) (extras (p .leases))))
+
+  pub written : Written p (length (p .bytes)) (extras (p .leases)) (encode p)
+  unfolding encode used
+  written =
+      let s : ℕ = length (p .bytes) in
+      let e : ℕ = extras (p .leases) in
+      let c : List ℕ = encode p in
+      let z0 = field-back c 0 32 nodeAt magic _ refl refl refl in
+      let z1 = field-back c nodeAt 20 enablerAt (p .node) _ (z0 .1) (v .node-size) refl in
+      let z2 = field-back c enablerAt 32 sizeAt (p .enabler) _ (z1 .1) (v .enabler-size) refl in
+      let z3 = field-back c sizeAt 8 offsetAt (digits 8 s) _ (z2 .1) (length-digits 8 s) refl in
+      let z4 = field-back c offsetAt 8 leasesAt (digits 8 (countAt s)) _ (z3 .1) (length-digits 8 (countAt s)) refl in
+      let z5 = field-back c leasesAt 368 dataAt (join (take 4 (p .leases))) _ (z4 .1) four-bytes refl in
+      let z6 = field-back c dataAt s (countAt s) (p .bytes) _ (z5 .1) refl (sym (count-is s)) in
+      let z7 = field-back c (countAt s) 4 (countAt s + 4) (digits 4 e) _ (z6 .1) (length-digits 4 e) refl in
+      let q : countAt s + 4 + 92 * e ≡ usedLength s e = omega (arith, count-is s, used-is s e) in
+      let z8 = field-back c (countAt s + 4) (92 * e) (usedLength s e) (join (drop 4 (p .leases))) _ (z7 .1) extra-bytes q in
+      record { magical = z0 .0; node = z1 .0; enabler = z2 .0; size = z3 .0; offset = z4 .0; after-offset = _; four = z4 .1; bytes = z6 .0; count = z7 .0; more = z7 .1; rest = z8 .1 }
+
+  -- what the fields of the encoding say
+  pub size-encode : sizeOf (encode p) ≡ length (p .bytes)
+  unfolding sizeOf numberAt
+  size-encode =
+      let h : 256 ^ 8 ≡ 18446744073709551616 = refl in
+      ap number (written .size) ∙ number-digits 8 (length (p .bytes)) (omega (arith, room-used, used-is (length (p .bytes)) (extras (p .leases)), v .at-most))
+
+  pub offset-encode : numberAt 8 offsetAt (encode p) ≡ countAt (length (p .bytes))
+  unfolding numberAt
+  offset-encode =
+      let h : 256 ^ 8 ≡ 18446744073709551616 = refl in
+      ap number (written .offset) ∙ number-digits 8 (countAt (length (p .bytes))) (omega (arith, room-used, count-is (length (p .bytes)), used-is (length (p .bytes)) (extras (p .leases)), v .at-most))
+
+  pub extras-encode : extrasOf (encode p) ≡ extras (p .leases)
+  unfolding extrasOf numberAt
+  extras-encode =
+      let h : 256 ^ 4 ≡ 4294967296 = refl in
+      rw size-encode (ap number (written .count) ∙ number-digits 4 (extras (p .leases)) (omega (arith, room-used, used-is (length (p .bytes)) (extras (p .leases)), v .at-most)))
+
+  pub node-encode : nodeOf (encode p) ≡ p .node
+  unfolding nodeOf
+  node-encode = written .node
+
+  pub enabler-encode : enablerOf (encode p) ≡ p .enabler
+  unfolding enablerOf
+  enabler-encode = written .enabler
+
+  pub data-encode : dataOf (encode p) ≡ p .bytes
+  unfolding dataOf
+  data-encode = rw size-encode (written .bytes)
+
+  four-encode : records 4 leasesAt (encode p) ≡ take 4 (p .leases)
+  four-encode = records-back 4 leasesAt (encode p) (take 4 (p .leases)) (written .after-offset) (written .four) four-long (each-take _ 4 (p .leases) sizes)
+
+  more-encode : records (extras (p .leases)) (countAt (length (p .bytes)) + 4) (encode p) ≡ drop 4 (p .leases)
+  more-encode = records-back (extras (p .leases)) (countAt (length (p .bytes)) + 4) (encode p) (drop 4 (p .leases)) _ (written .more) extras-long (each-drop _ 4 (p .leases) sizes)
+
+  pub leases-encode : leasesOf (encode p) ≡ p .leases
+  unfolding leasesOf
+  leases-encode = rw (size-encode, extras-encode, four-encode, more-encode) (take-append-drop 4 (p .leases))
+
+  -- read back
+  pub parts-encode : partsOf (encode p) ≡ p
+  unfolding partsOf
+  parts-encode = rw (length-encode, node-encode, enabler-encode, data-encode, leases-encode)
+
+  -- what the encoding is, is well formed
+  fields-encode : Fields (encode p)
+  fields-encode = record {
+    magical = rw (written .magical) (same-refl magic);
+    offset = rw size-encode offset-encode;
+    few = rw extras-encode few-extras;
+    fits = rw (size-encode, extras-encode, length-encode) room-used;
+  }
+    where
+      few-extras : extras (p .leases) ≤ 60
+      few-extras = omega (arith, sym extras-long ∙ length-drop 4 (p .leases), v .few)
+
+  contents-encode : Contents (encode p)
+  contents-encode = record {
+    records = rw leases-encode (places-ok (p .leases) (v .places));
+    last = rw leases-encode (v .last);
+    zeros = rw (size-encode, extras-encode, written .rest) (allZero-replicate (p .room - usedLength (length (p .bytes)) (extras (p .leases))));
+  }
+
+  pub encode-formed : wellFormed (encode p) ≡ true
+  encode-formed = formed-true (encode p) (record { least-length = rw length-encode (v .at-least); most = rw length-encode (v .at-most); fields = fields-encode; contents = contents-encode })
+
+-- ---- a fresh container
+pub no-lease : Place noLease
+unfolding noLease recordOk held ownerOf numberAt number numberAfter allZero
+no-lease = record { size = refl; ok = refl }
+
+pub fresh-valid : (n : ℕ) (node enabler : List ℕ) → least ≤ n → n ≤ limit → length node ≡ 20 → length enabler ≡ 32 → Valid (fresh n node enabler)
+unfolding fresh used extras usedLength countAt lastHeld
+fresh-valid n node enabler a b e f = record {
+  at-least = a;
+  at-most = b;
+  node-size = e;
+  enabler-size = f;
+  four = omega arith;
+  few = omega arith;
+  places = (no-lease, (no-lease, (no-lease, (no-lease, tt))));
+  last = refl;
+  fits = a;
+}

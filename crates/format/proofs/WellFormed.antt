@@ -1,0 +1,177 @@
+-- What well-formedness of a container says, as records of facts; laws of its lease records. Assumes nothing.
+use mathlib.Core.Path.{_≡_, refl, ap, _∙_}
+use mathlib.Core.Bool.{Bool, true, false, _&&_, false≢true}
+use mathlib.Core.List.{List, [], _∷_, _++_, append-assoc}
+use Prim.Native.Nat.{ℕ, zero, suc, _+_, _*_, _≤_, _<_}
+use native.Mathlib.Omega.{arith}
+use native.Mathlib.Nat.{not-suc-le-zero}
+use lib.ListN.{length, take, drop, getD, length-append, length-drop}
+use lib.Seq.{length-take-le, drop-drop, take-add, take-at, drop-at}
+use borrow.Author.Tests.{eqb-true, leb-true, eq-eqb, le-leb}
+use Rattle.octets.specs.Numbers.{numberAt}
+use Rattle.octets.specs.Strings.{allZero, same, join}
+use Rattle.format.specs.Container.{magic, least, limit, lengthAllowed, offsetAt, leasesAt, dataAt, countAt, usedLength, sizeOf, dataOf, extrasOf, records, leasesOf, held, recordOk, recordsOk, lastHeld, fieldsOk, contentsOk, wellFormed}
+use Rattle.format.specs.Parts.{Each}
+
+pub both : (a b : Bool) → (a && b) ≡ true → (a ≡ true) × (b ≡ true)
+both true b e = (refl, e)
+both false b e = absurd (false≢true e)
+
+pub by-refuting : (t : Bool) → (t ≡ true → ⊥) → t ≡ false
+by-refuting true h = absurd (h refl)
+by-refuting false h = refl
+
+-- ---- the fields
+pub record Fields (c : List ℕ) : Type 0 where
+  pub magical : same (take 32 c) magic ≡ true
+  pub offset : numberAt 8 offsetAt c ≡ countAt (sizeOf c)
+  pub few : extrasOf c ≤ 60
+  pub fits : usedLength (sizeOf c) (extrasOf c) ≤ length c
+
+pub fields-facts : (c : List ℕ) → fieldsOk c ≡ true → Fields c
+unfolding fieldsOk
+fields-facts c e =
+    let a = both _ _ e in
+    let b = both _ _ (a .1) in
+    let d = both _ _ (b .1) in
+    record { magical = a .0; offset = eqb-true _ _ (b .0); few = leb-true _ _ (d .0); fits = leb-true _ _ (d .1) }
+
+pub fields-true : (c : List ℕ) → Fields c → fieldsOk c ≡ true
+unfolding fieldsOk
+fields-true c h = rw (h .magical, eq-eqb _ _ (h .offset), le-leb _ _ (h .few), le-leb _ _ (h .fits))
+
+pub fields-false : (c : List ℕ) → (Fields c → ⊥) → fieldsOk c ≡ false
+fields-false c k = by-refuting (fieldsOk c) (λ e. k (fields-facts c e))
+
+-- ---- the contents
+pub record Contents (c : List ℕ) : Type 0 where
+  pub records : recordsOk (leasesOf c) ≡ true
+  pub last : lastHeld (drop 4 (leasesOf c)) ≡ true
+  pub zeros : allZero (drop (usedLength (sizeOf c) (extrasOf c)) c) ≡ true
+
+pub contents-facts : (c : List ℕ) → contentsOk c ≡ true → Contents c
+unfolding contentsOk
+contents-facts c e =
+    let a = both _ _ e in
+    let b = both _ _ (a .1) in
+    record { records = a .0; last = b .0; zeros = b .1 }
+
+pub contents-true : (c : List ℕ) → Contents c → contentsOk c ≡ true
+unfolding contentsOk
+contents-true c h = rw (h .records, h .last, h .zeros)
+
+pub contents-false : (c : List ℕ) → (Contents c → ⊥) → contentsOk c ≡ false
+contents-false c k = by-refuting (contentsOk c) (λ e. k (contents-facts c e))
+
+-- ---- the whole
+pub record Formed (c : List ℕ) : Type 0 where
+  pub least-length : least ≤ length c
+  pub most : length c ≤ limit
+  pub fields : Fields c
+  pub contents : Contents c
+
+pub formed-facts : (c : List ℕ) → wellFormed c ≡ true → Formed c
+unfolding wellFormed lengthAllowed
+formed-facts c e =
+    let a = both _ _ e in
+    let l = both _ _ (a .0) in
+    let b = both _ _ (a .1) in
+    record { least-length = leb-true _ _ (l .0); most = leb-true _ _ (l .1); fields = fields-facts c (b .0); contents = contents-facts c (b .1) }
+
+pub formed-true : (c : List ℕ) → Formed c → wellFormed c ≡ true
+unfolding wellFormed lengthAllowed
+formed-true c h = rw (le-leb _ _ (h .least-length), le-leb _ _ (h .most), fields-true c (h .fields), contents-true c (h .contents))
+
+pub formed-false : (c : List ℕ) → (Formed c → ⊥) → wellFormed c ≡ false
+formed-false c k = by-refuting (wellFormed c) (λ e. k (formed-facts c e))
+
+-- ---- the table in numbers
+pub count-is : (s : ℕ) → countAt s ≡ 468 + s
+unfolding countAt
+count-is s = refl
+
+pub used-is : (s e : ℕ) → usedLength s e ≡ 472 + s + 92 * e
+unfolding usedLength countAt
+used-is s e = omega arith
+
+-- ---- lease records, read one after the other
+pub length-records : (n p : ℕ) (c : List ℕ) → length (records n p c) ≡ n
+unfolding records
+length-records zero p c = refl
+length-records (suc n) p c = ap suc (length-records n (p + 92) c)
+
+pub records-add : (m n p : ℕ) (c : List ℕ) → records (m + n) p c ≡ records m p c ++ records n (p + 92 * m) c
+unfolding records
+records-add zero n p c =
+    let e : 0 + n ≡ n = omega arith in
+    let k : p + 92 * 0 ≡ p = omega arith in
+    rw (e, k)
+records-add (suc m) n p c =
+    let e : suc m + n ≡ suc (m + n) = omega arith in
+    let k : p + 92 + 92 * m ≡ p + 92 * suc m = omega arith in
+    rw (e, ← k) (ap (λ (l : List (List ℕ)). take 92 (drop p c) ∷ l) (records-add m n (p + 92) c))
+
+pub records-shift : (n a p : ℕ) (c : List ℕ) → records n (a + p) c ≡ records n p (drop a c)
+unfolding records
+records-shift zero a p c = refl
+records-shift (suc n) a p c =
+    let k : a + p + 92 ≡ a + (p + 92) = omega arith in
+    rw (drop-drop p a c, k) (ap (λ (l : List (List ℕ)). take 92 (drop (a + p) c) ∷ l) (records-shift n a (p + 92) c))
+
+pub record-at : (n p i : ℕ) (c : List ℕ) → i < n → getD (records n p c) i [] ≡ take 92 (drop (p + 92 * i) c)
+unfolding records
+record-at zero p i c h = absurd (not-suc-le-zero h)
+record-at (suc n) p zero c h =
+    let k : p + 92 * 0 ≡ p = omega arith in
+    rw k
+record-at (suc n) p (suc i) c h =
+    let k : p + 92 + 92 * i ≡ p + 92 * suc i = omega arith in
+    record-at n (p + 92) i c (omega arith) ∙ rw k
+
+pub lastHeld-records : (n p : ℕ) (c : List ℕ) → lastHeld (records (suc n) p c) ≡ held (take 92 (drop (p + 92 * n) c))
+unfolding records lastHeld
+lastHeld-records zero p c =
+    let k : p + 92 * 0 ≡ p = omega arith in
+    rw k
+lastHeld-records (suc n) p c =
+    let k : p + 92 + 92 * n ≡ p + 92 * suc n = omega arith in
+    lastHeld-records n (p + 92) c ∙ rw k
+
+and-assoc : (a b d : Bool) → (a && (b && d)) ≡ ((a && b) && d)
+and-assoc true b d = refl
+and-assoc false b d = refl
+
+pub recordsOk-append : (a b : List (List ℕ)) → recordsOk (a ++ b) ≡ (recordsOk a && recordsOk b)
+unfolding recordsOk
+recordsOk-append [] b = refl
+recordsOk-append (r ∷ a) b = ap (λ (t : Bool). recordOk r && t) (recordsOk-append a b) ∙ and-assoc (recordOk r) (recordsOk a) (recordsOk b)
+
+pub length-leases : (c : List ℕ) → length (leasesOf c) ≡ 4 + extrasOf c
+unfolding leasesOf
+length-leases c = length-append (records 4 leasesAt c) (records (extrasOf c) (countAt (sizeOf c) + 4) c) ∙ rw (length-records 4 leasesAt c, length-records (extrasOf c) (countAt (sizeOf c) + 4) c)
+
+-- ---- lease records, joined (records that reach past the end are cut short on both sides)
+pub join-records : (n p : ℕ) (c : List ℕ) → join (records n p c) ≡ take (92 * n) (drop p c)
+unfolding records join
+join-records zero p c = refl
+join-records (suc n) p c =
+    let k : 92 * suc n ≡ 92 + 92 * n = omega arith in
+    rw (k, take-add 92 (92 * n) (drop p c), drop-drop 92 p c) (ap (λ (l : List ℕ). take 92 (drop p c) ++ l) (join-records n (p + 92) c))
+
+pub length-join : (ls : List (List ℕ)) → Each (λ r. length r ≡ 92) ls → length (join ls) ≡ 92 * length ls
+unfolding join
+length-join [] h = refl
+length-join (r ∷ ls) h = length-append r (join ls) ∙ rw (h .0, length-join ls (h .1)) (omega arith)
+
+pub records-join : (ls : List (List ℕ)) (t : List ℕ) → Each (λ r. length r ≡ 92) ls → records (length ls) 0 (join ls ++ t) ≡ ls
+unfolding records join
+records-join [] t h = refl
+records-join (r ∷ ls) t h =
+    let c : List ℕ = join ls ++ t in
+    let ih : records (length ls) 92 (r ++ c) ≡ ls = records-shift (length ls) 92 0 (r ++ c) ∙ rw (drop-at r c 92 (h .0)) (records-join ls t (h .1)) in
+    rw (append-assoc r (join ls) t, take-at r c 92 (h .0), ih)
+
+-- ---- data
+pub data-length : (c : List ℕ) → wellFormed c ≡ true → length (dataOf c) ≡ sizeOf c
+unfolding dataOf
+data-length c e = length-take-le (sizeOf c) (drop dataAt c) (rw length-drop (omega (arith, formed-facts c e .fields .fits, used-is (sizeOf c) (extrasOf c))))
