@@ -1,0 +1,228 @@
+-- A request that is answered 0 leaves parts that obey the rules and fit. Assumes nothing.
+use mathlib.Core.Path.{_≡_, refl, sym, ap, _∙_}
+use mathlib.Core.Bool.{Bool, true, false, cond, not, _&&_, true≢false, false≢true}
+use mathlib.Core.List.{List, [], _∷_, _++_, map}
+use mathlib.Core.Option.{Option, none, some}
+use Prim.Native.Nat.{ℕ, zero, suc, _+_, _-_, _*_, _≤_, _<_}
+use native.Mathlib.Omega.{arith}
+use lib.ListN.{length, take, drop, getD, set, length-append, length-take, length-drop, length-set}
+use lib.Seq.{take-at, drop-at, drop-append-le, length-take-le}
+use lib.Dec.{ltb, leb, eqb}
+use borrow.Author.Tests.{ltb-true, ltb-false, leb-true, leb-false}
+use Rattle.octets.specs.Strings.{same}
+use Rattle.format.specs.Container.{held, recordOk, lastHeld, expiryOf, renewalOf, usedLength, countAt}
+use Rattle.format.specs.Parts.{Parts, Place, Each, Valid, used, extras, noLease}
+use Rattle.format.proofs.WellFormed.{both}
+use Rattle.format.proofs.RoundTrip.{each-append, each-take, each-drop, no-lease}
+use Rattle.rules.specs.Requests.{Request, testWrite, add, renew, cancel, read}
+use Rattle.rules.specs.Testing.{isSome, holds, every, anyOf, exceeds}
+use Rattle.rules.specs.Leasing.{renewedBy, cancelledBy, vacant, firstOf, later, extended, placedAt, trim, dropTail, addedAt, added, renewedAt, renewed, cancelledAt, cancelled, knows, present}
+use Rattle.rules.specs.Outcomes.{withBytes, withLeases, after, Row, row, lowest, rows, roomRows, requestRows, resolved, replyTo}
+use Rattle.rules.proofs.LeaseLaws.{each-set, each-at, Found, first-found, none-some, full-present, length-later, held-later, held-ok, last-set, last-drop-set, last-snoc, last-trim, each-trim, length-trim}
+
+-- ---- the lowest number is 0 only where no row applies
+pub not-false : (b : Bool) → not b ≡ false → b ≡ true
+not-false true e = refl
+not-false false e = absurd (true≢false e)
+
+pub clear : (n : ℕ) (b : Bool) (rs : List Row) → 0 < n → lowest (row n b ∷ rs) ≡ 0 → (b ≡ false) × (lowest rs ≡ 0)
+unfolding lowest
+clear n true rs h e = absurd (omega arith)
+clear n false rs h e = (refl, e)
+
+pub lowest-append : (a b : List Row) → lowest a ≡ 0 → Each (λ r. 0 < r .number) a → lowest (a ++ b) ≡ lowest b
+unfolding lowest
+lowest-append [] b e h = refl
+lowest-append (r ∷ a) b e h =
+    let z = clear (r .number) (r .applies) a (h .0) e in
+    rw (z .0) (lowest-append a b (z .1) (h .1))
+
+pub lowest-front : (a b : List Row) → Each (λ r. 0 < r .number) a → lowest (a ++ b) ≡ 0 → lowest a ≡ 0
+unfolding lowest
+lowest-front [] b h e = refl
+lowest-front (r ∷ a) b h e =
+    let z = clear (r .number) (r .applies) (a ++ b) (h .0) e in
+    rw (z .0) (lowest-front a b (h .1) (z .1))
+
+-- every row has a number
+pub rows-numbered : (p : Parts) (r : Request) (n : ℕ) → Each (λ x. 0 < x .number) (rows p r n)
+unfolding rows
+rows-numbered p (testWrite k ts ws cut) n = (omega arith, (omega arith, (omega arith, (omega arith, tt))))
+rows-numbered p (add r) n = (omega arith, tt)
+rows-numbered p (renew t x) n = (omega arith, tt)
+rows-numbered p (cancel t) n = (omega arith, tt)
+rows-numbered p (read rs) n = (omega arith, (omega arith, (omega arith, tt)))
+
+-- ---- parts with other data, and with other lease places
+pub bytes-kept : (p : Parts) (d : List ℕ) → Valid p → used (withBytes p d) ≤ p .room → Valid (withBytes p d)
+unfolding withBytes
+bytes-kept p d v f = record {
+  at-least = v .at-least;
+  at-most = v .at-most;
+  node-size = v .node-size;
+  enabler-size = v .enabler-size;
+  four = v .four;
+  few = v .few;
+  places = v .places;
+  last = v .last;
+  fits = f;
+}
+
+-- lease places in order
+pub record Ordered (ls : List (List ℕ)) : Type 0 where
+  pub four : 4 ≤ length ls
+  pub few : length ls ≤ 64
+  pub places : Each Place ls
+  pub last : lastHeld (drop 4 ls) ≡ true
+
+pub valid-ordered : (p : Parts) → Valid p → Ordered (p .leases)
+valid-ordered p v = record { four = v .four; few = v .few; places = v .places; last = v .last }
+
+pub leases-kept : (p : Parts) (ls : List (List ℕ)) → Valid p → Ordered ls → used (withLeases p ls) ≤ p .room → Valid (withLeases p ls)
+unfolding withLeases
+leases-kept p ls v o f = record {
+  at-least = v .at-least;
+  at-most = v .at-most;
+  node-size = v .node-size;
+  enabler-size = v .enabler-size;
+  four = o .four;
+  few = o .few;
+  places = o .places;
+  last = o .last;
+  fits = f;
+}
+
+-- no more places use no more room
+pub used-fewer : (p : Parts) (ls : List (List ℕ)) → Valid p → length ls ≤ length (p .leases) → used (withLeases p ls) ≤ p .room
+unfolding withLeases used extras usedLength
+used-fewer p ls v h = let f : countAt (length (p .bytes)) + 4 + 92 * (length (p .leases) - 4) ≤ p .room = v .fits in omega arith
+
+-- a lease record in a place
+pub set-ordered : (ls : List (List ℕ)) (i : ℕ) (r : List ℕ) → Ordered ls → Place r → held r ≡ true → Ordered (set ls i r)
+set-ordered ls i r o k h = record {
+  four = rw length-set (o .four);
+  few = rw length-set (o .few);
+  places = each-set Place ls i r (o .places) k;
+  last = last-drop-set ls i r h (o .last);
+}
+
+pub extended-ordered : (x : ℕ) (ls : List (List ℕ)) (i : ℕ) → i < length ls → held (getD ls i []) ≡ true → Ordered ls → Ordered (extended x ls i)
+unfolding extended
+extended-ordered x ls i h k o =
+    let pl : Place (getD ls i []) = each-at Place ls i [] h (o .places) in
+    let hl : held (later x (getD ls i [])) ≡ true = held-later x (getD ls i []) (pl .size) ∙ k in
+    set-ordered ls i (later x (getD ls i [])) o (record { size = length-later x (getD ls i []) (pl .size); ok = held-ok _ hl }) hl
+
+-- cancel: an emptied place, then the tail dropped
+pub dropped-ordered : (ls : List (List ℕ)) → 4 ≤ length ls → length ls ≤ 64 → Each Place ls → Ordered (dropTail ls)
+unfolding dropTail
+dropped-ordered ls f m e =
+    let a : List (List ℕ) = take 4 ls in
+    let b : List (List ℕ) = trim (drop 4 ls) in
+    let la : length a ≡ 4 = length-take-le 4 ls f in
+    let lb : length b ≤ length (drop 4 ls) = length-trim (drop 4 ls) in
+    let ld : length (drop 4 ls) ≡ length ls - 4 = length-drop 4 ls in
+    let lab : length (a ++ b) ≡ length a + length b = length-append a b in
+    record {
+      four = omega arith;
+      few = omega arith;
+      places = each-append Place a b (each-take Place 4 ls e) (each-trim Place (drop 4 ls) (each-drop Place 4 ls e));
+      last = rw (drop-at a b 4 la) (last-trim (drop 4 ls));
+    }
+
+pub length-dropped : (ls : List (List ℕ)) → 4 ≤ length ls → length (dropTail ls) ≤ length ls
+unfolding dropTail
+length-dropped ls f =
+    let lb : length (trim (drop 4 ls)) ≤ length (drop 4 ls) = length-trim (drop 4 ls) in
+    let ld : length (drop 4 ls) ≡ length ls - 4 = length-drop 4 ls in
+    let la : length (take 4 ls) ≡ 4 = length-take-le 4 ls f in
+    rw length-append (omega arith)
+
+-- a new extra
+pub snoc-ordered : (ls : List (List ℕ)) (r : List ℕ) → Ordered ls → length ls < 64 → Place r → held r ≡ true → Ordered (ls ++ (r ∷ []))
+snoc-ordered ls r o h k e =
+    let l : length (ls ++ (r ∷ [])) ≡ length ls + 1 = length-append ls (r ∷ []) in
+    let f : 4 ≤ length ls = o .four in
+    record {
+      four = omega arith;
+      few = omega arith;
+      places = each-append Place ls (r ∷ []) (o .places) (k, tt);
+      last = rw (drop-append-le 4 ls (r ∷ []) f) (last-snoc (drop 4 ls) r ∙ e);
+    }
+
+-- what the requests make of ordered places
+pub renewed-ordered : (t : List ℕ) (x : ℕ) (ls : List (List ℕ)) → Ordered ls → Ordered (renewed t x ls) × (length (renewed t x ls) ≡ length ls)
+unfolding renewed renewedAt extended renewedBy
+renewed-ordered t x ls o = go (firstOf (renewedBy t) ls) refl
+  where
+    go : (f : Option ℕ) → firstOf (renewedBy t) ls ≡ f → Ordered (renewedAt x ls f) × (length (renewedAt x ls f) ≡ length ls)
+    go none e = (o, refl)
+    go (some i) e =
+        let f : Found (renewedBy t) ls i = first-found (renewedBy t) ls i e in
+        (extended-ordered x ls i (f .inside) (both _ _ (f .passes) .0) o, length-set ls i _)
+
+pub cancelled-ordered : (t : List ℕ) (ls : List (List ℕ)) → Ordered ls → Ordered (cancelled t ls) × (length (cancelled t ls) ≤ length ls)
+unfolding cancelled cancelledAt
+cancelled-ordered t ls o = go (firstOf (cancelledBy t) ls) refl
+  where
+    go : (f : Option ℕ) → firstOf (cancelledBy t) ls ≡ f → Ordered (cancelledAt ls f) × (length (cancelledAt ls f) ≤ length ls)
+    go none e = (o, omega arith)
+    go (some i) e =
+        let l : length (set ls i noLease) ≡ length ls = length-set ls i noLease in
+        let f : 4 ≤ length ls = o .four in
+        let m : length ls ≤ 64 = o .few in
+        let d : length (dropTail (set ls i noLease)) ≤ length (set ls i noLease) = length-dropped (set ls i noLease) (omega arith) in
+        (dropped-ordered (set ls i noLease) (omega arith) (omega arith) (each-set Place ls i noLease (o .places) no-lease), omega arith)
+
+-- add: the places stay in order where fewer than 64 leases are present or one has the token
+pub added-ordered : (r : List ℕ) (ls : List (List ℕ)) → Ordered ls → Place r → held r ≡ true →
+    (leb 64 (present ls) && not (knows (renewedBy (renewalOf r)) ls)) ≡ false → Ordered (added r ls)
+unfolding added addedAt placedAt knows isSome extended renewedBy
+added-ordered r ls o k h n = go (firstOf (renewedBy (renewalOf r)) ls) refl n
+  where
+    room : (f : Option ℕ) → firstOf vacant ls ≡ f → (leb 64 (present ls) && true) ≡ false → Ordered (placedAt r ls f)
+    room none e m =
+        let z : present ls < 64 = leb-false 64 (present ls) (and-true m) in
+        let l : present ls ≡ length ls = full-present ls e in
+        snoc-ordered ls r o (omega arith) k h
+      where
+        and-true : {a : Bool} → (a && true) ≡ false → a ≡ false
+        and-true {a} = go a
+          where
+            go : (a : Bool) → (a && true) ≡ false → a ≡ false
+            go true e = e
+            go false e = refl
+    room (some i) e m = set-ordered ls i r o k h
+
+    go : (f : Option ℕ) → firstOf (renewedBy (renewalOf r)) ls ≡ f → (leb 64 (present ls) && not (isSome f)) ≡ false → Ordered (addedAt r ls f)
+    go none e m = room (firstOf vacant ls) refl m
+    go (some i) e m =
+        let f : Found (renewedBy (renewalOf r)) ls i = first-found (renewedBy (renewalOf r)) ls i e in
+        extended-ordered (expiryOf r) ls i (f .inside) (both _ _ (f .passes) .0) o
+
+-- a request that came out of bytes: an added record has 92 bytes and an owner
+abbrev pub Proper : Request → Type 0
+Proper (testWrite k ts ws cut) = Unit {0}
+Proper (add r) = (length r ≡ 92) × (held r ≡ true)
+Proper (renew t x) = Unit {0}
+Proper (cancel t) = Unit {0}
+Proper (read rs) = Unit {0}
+
+pub after-valid : (p : Parts) (r : Request) (n : ℕ) → Valid p → Proper r → lowest (rows p r n ++ roomRows p r) ≡ 0 → Valid (after p r)
+unfolding after rows roomRows lowest
+after-valid p (testWrite k ts ws cut) n v q e =
+    let a = lowest-append (rows p (testWrite k ts ws cut) n) (roomRows p (testWrite k ts ws cut)) (lowest-front (rows p (testWrite k ts ws cut) n) (roomRows p (testWrite k ts ws cut)) (rows-numbered p (testWrite k ts ws cut) n) e) (rows-numbered p (testWrite k ts ws cut) n) in
+    let z = clear 11 _ [] (omega arith) (sym a ∙ e) in
+    bytes-kept p _ v (ltb-false _ _ (z .0))
+after-valid p (add r) n v q e =
+    let y = clear 10 _ (roomRows p (add r)) (omega arith) e in
+    let z = clear 11 _ [] (omega arith) (y .1) in
+    leases-kept p _ v (added-ordered r (p .leases) (valid-ordered p v) (record { size = q .0; ok = held-ok r (q .1) }) (q .1) (y .0)) (ltb-false _ _ (z .0))
+after-valid p (renew t x) n v q e =
+    let o = renewed-ordered t x (p .leases) (valid-ordered p v) in
+    let l : length (renewed t x (p .leases)) ≡ length (p .leases) = o .1 in
+    leases-kept p _ v (o .0) (used-fewer p _ v (omega arith))
+after-valid p (cancel t) n v q e =
+    let o = cancelled-ordered t (p .leases) (valid-ordered p v) in
+    leases-kept p _ v (o .0) (used-fewer p _ v (o .1))
+after-valid p (read rs) n v q e = v

@@ -1,0 +1,153 @@
+-- Lease requests keep the places in order. Assumes nothing.
+use mathlib.Core.Path.{_≡_, refl, sym, ap, _∙_}
+use mathlib.Core.Bool.{Bool, true, false, cond, not, _&&_, true≢false, false≢true}
+use mathlib.Core.List.{List, [], _∷_, _++_}
+use mathlib.Core.Option.{Option, none, some}
+use Prim.Native.Nat.{ℕ, zero, suc, _+_, _-_, _≤_, _<_, max}
+use native.Mathlib.Omega.{arith}
+use lib.ListN.{length, take, drop, getD, set, replicate, length-append, length-take, length-drop, length-set, length-replicate}
+use lib.Seq.{take-at, length-take-le, drop-set-lt, drop-set-add}
+use lib.Dec.{ltb}
+use borrow.Author.Tests.{ltb-true, ltb-false}
+use Rattle.octets.specs.Numbers.{numberAfter, numberAt, number, digits}
+use Rattle.octets.specs.Strings.{allZero}
+use Rattle.octets.proofs.NumberLaws.{length-digits}
+use Rattle.octets.proofs.StringLaws.{allZero-replicate}
+use Rattle.format.specs.Container.{ownerOf, expiryOf, renewalOf, held, recordOk, lastHeld}
+use Rattle.format.specs.Parts.{Place, Each}
+use Rattle.rules.specs.Testing.{isSome}
+use Rattle.rules.specs.Leasing.{renewedBy, cancelledBy, vacant, next, firstOf, later, extended, placedAt, withLast, trim, dropTail, addedAt, added, renewedAt, renewed, cancelledAt, cancelled, knows, present}
+
+-- ---- what holds of each place
+pub each-set : {A : Type 0} (P : A → Type 0) (ls : List A) (i : ℕ) (r : A) → Each P ls → P r → Each P (set ls i r)
+each-set P [] i r h k = tt
+each-set P (x ∷ ls) zero r h k = (k, h .1)
+each-set P (x ∷ ls) (suc i) r h k = (h .0, each-set P ls i r (h .1) k)
+
+pub each-at : {A : Type 0} (P : A → Type 0) (ls : List A) (i : ℕ) (d : A) → i < length ls → Each P ls → P (getD ls i d)
+each-at P [] i d h e = absurd (omega arith)
+each-at P (x ∷ ls) zero d h e = e .0
+each-at P (x ∷ ls) (suc i) d h e = each-at P ls i d (omega arith) (e .1)
+
+-- ---- the first place that passes a test
+pub record Found (test : List ℕ → Bool) (ls : List (List ℕ)) (i : ℕ) : Type 0 where
+  pub inside : i < length ls
+  pub passes : test (getD ls i []) ≡ true
+
+-- neither constructor is the other
+pub none-some : {i : ℕ} → _≡_ {A = Option ℕ} none (some i) → ⊥
+none-some e = let z : _≡_ {A = ℕ} 0 1 = cc in omega arith
+
+found-step : (test : List ℕ → Bool) (r : List ℕ) (ls : List (List ℕ)) (i : ℕ) → ((j : ℕ) → firstOf test ls ≡ some j → Found test ls j) →
+    (t : Bool) → test r ≡ t → (o : Option ℕ) → firstOf test ls ≡ o → cond t (some 0) (next o) ≡ some i → Found test (r ∷ ls) i
+unfolding next
+found-step test r ls i ih true h o k e =
+    let z : i ≡ 0 = cc in
+    rw z (record { inside = omega arith; passes = h })
+found-step test r ls i ih false h none k e = absurd (none-some e)
+found-step test r ls i ih false h (some j) k e =
+    let z : i ≡ suc j = cc in
+    let f : Found test ls j = ih j k in
+    rw z (record { inside = omega (arith, f .inside); passes = f .passes })
+
+pub first-found : (test : List ℕ → Bool) (ls : List (List ℕ)) (i : ℕ) → firstOf test ls ≡ some i → Found test ls i
+unfolding firstOf
+first-found test [] i e = absurd (none-some e)
+first-found test (r ∷ ls) i e = found-step test r ls i (λ j. first-found test ls j) (test r) refl (firstOf test ls) refl e
+
+-- where no place is vacant, every place holds a lease
+pub full-present : (ls : List (List ℕ)) → firstOf vacant ls ≡ none → present ls ≡ length ls
+unfolding firstOf vacant present next
+full-present [] e = refl
+full-present (r ∷ ls) e = go (held r) (firstOf vacant ls) refl (full-present ls) e
+  where
+    go : (t : Bool) (o : Option ℕ) → firstOf vacant ls ≡ o → (firstOf vacant ls ≡ none → present ls ≡ length ls) → cond (not t) (some 0) (next o) ≡ none →
+        cond t 1 0 + present ls ≡ suc (length ls)
+    go true none k ih e = let z = ih k in omega arith
+    go true (some j) k ih e = absurd (none-some (sym e))
+    go false o k ih e = absurd (none-some (sym e))
+
+-- ---- the later expiry
+pub length-later : (x : ℕ) (r : List ℕ) → length r ≡ 92 → length (later x r) ≡ 92
+unfolding later
+length-later x r h = simp (length-append, length-digits, length-take, length-drop) (omega arith)
+
+pub owner-later : (x : ℕ) (r : List ℕ) → length r ≡ 92 → ownerOf (later x r) ≡ ownerOf r
+unfolding later ownerOf numberAt
+owner-later x r h = ap number (take-at (take 4 r) (digits 4 (max (expiryOf r) x) ++ drop 8 r) 4 (length-take-le 4 r (omega arith)))
+
+pub held-later : (x : ℕ) (r : List ℕ) → length r ≡ 92 → held (later x r) ≡ held r
+unfolding held
+held-later x r h = rw (owner-later x r h)
+
+pub held-ok : (r : List ℕ) → held r ≡ true → recordOk r ≡ true
+unfolding recordOk
+held-ok r h = rw h
+
+-- ---- the last extra
+pub last-set : (ls : List (List ℕ)) (i : ℕ) (r : List ℕ) → held r ≡ true → lastHeld ls ≡ true → lastHeld (set ls i r) ≡ true
+unfolding lastHeld
+last-set [] i r h k = k
+last-set (x ∷ []) zero r h k = h
+last-set (x ∷ []) (suc i) r h k = k
+last-set (x ∷ (y ∷ ls)) zero r h k = k
+last-set (x ∷ (y ∷ ls)) (suc zero) r h k = last-set (y ∷ ls) zero r h k
+last-set (x ∷ (y ∷ ls)) (suc (suc i)) r h k = last-set (y ∷ ls) (suc i) r h k
+
+pub last-drop-set : (ls : List (List ℕ)) (i : ℕ) (r : List ℕ) → held r ≡ true → lastHeld (drop 4 ls) ≡ true → lastHeld (drop 4 (set ls i r)) ≡ true
+last-drop-set ls i r h k = go (ltb i 4) refl
+  where
+    go : (t : Bool) → ltb i 4 ≡ t → lastHeld (drop 4 (set ls i r)) ≡ true
+    go true e = rw (drop-set-lt 4 ls i r (ltb-true i 4 e)) k
+    go false e =
+        let g : 4 ≤ i = ltb-false i 4 e in
+        let z : i ≡ 4 + (i - 4) = omega arith in
+        rw (z, drop-set-add 4 ls (i - 4) r) (last-set (drop 4 ls) (i - 4) r h k)
+
+pub last-snoc : (ls : List (List ℕ)) (r : List ℕ) → lastHeld (ls ++ (r ∷ [])) ≡ held r
+unfolding lastHeld
+last-snoc [] r = refl
+last-snoc (x ∷ []) r = refl
+last-snoc (x ∷ (y ∷ ls)) r = last-snoc (y ∷ ls) r
+
+last-with : (r : List ℕ) (ls : List (List ℕ)) → lastHeld ls ≡ true → lastHeld (withLast r ls) ≡ true
+unfolding withLast lastHeld
+last-with r [] h = go (held r) refl
+  where
+    go : (t : Bool) → held r ≡ t → lastHeld (cond t (r ∷ []) []) ≡ true
+    go true e = e
+    go false e = refl
+last-with r (s ∷ ls) h = h
+
+pub last-trim : (ls : List (List ℕ)) → lastHeld (trim ls) ≡ true
+unfolding trim lastHeld
+last-trim [] = refl
+last-trim (r ∷ ls) = last-with r (trim ls) (last-trim ls)
+
+each-with : (P : List ℕ → Type 0) (r : List ℕ) (ls : List (List ℕ)) → P r → Each P ls → Each P (withLast r ls)
+unfolding withLast
+each-with P r [] h k = go (held r)
+  where
+    go : (t : Bool) → Each P (cond t (r ∷ []) [])
+    go true = (h, tt)
+    go false = tt
+each-with P r (s ∷ ls) h k = (h, k)
+
+pub each-trim : (P : List ℕ → Type 0) (ls : List (List ℕ)) → Each P ls → Each P (trim ls)
+unfolding trim
+each-trim P [] h = tt
+each-trim P (r ∷ ls) h = each-with P r (trim ls) (h .0) (each-trim P ls (h .1))
+
+length-with : (r : List ℕ) (ls : List (List ℕ)) (n : ℕ) → length ls ≤ n → length (withLast r ls) ≤ suc n
+unfolding withLast
+length-with r [] n h = go (held r)
+  where
+    go : (t : Bool) → length (cond t (r ∷ []) []) ≤ suc n
+    go true = omega arith
+    go false = omega arith
+length-with r (s ∷ ls) n h = omega arith
+
+pub length-trim : (ls : List (List ℕ)) → length (trim ls) ≤ length ls
+unfolding trim
+length-trim [] = omega arith
+length-trim (r ∷ ls) = length-with r (trim ls) (length ls) (length-trim ls)

@@ -1,0 +1,9 @@
+pub mod WriteLaws
+pub mod LeaseLaws
+pub mod Kept
+pub mod RequestLaws
+pub mod OutcomeLaws
+pub mod EdgeTable
+pub mod Demand1
+pub mod Demand2
+pub mod Secrets

@@ -1,0 +1,86 @@
+-- Lease requests (document 01, "Testing, writing, leasing"), over the lease places in order: the four, then the extras.
+use Prim.Native.Nat.{ℕ, zero, suc, _+_, max}
+use mathlib.Core.Bool.{Bool, true, false, cond, not, _&&_}
+use mathlib.Core.List.{List, [], _∷_, _++_}
+use mathlib.Core.Option.{Option, none, some}
+use lib.ListN.{length, take, drop, getD, set}
+use Rattle.octets.specs.Numbers.{digits}
+use Rattle.octets.specs.Strings.{same}
+use Rattle.format.specs.Container.{held, expiryOf, renewalOf, cancelOf}
+use Rattle.format.specs.Parts.{noLease}
+use Rattle.rules.specs.Testing.{isSome}
+
+-- A record with owner 0 matches no token.
+unfoldable pub renewedBy : List ℕ → List ℕ → Bool
+renewedBy token r = held r && same (renewalOf r) token
+
+unfoldable pub cancelledBy : List ℕ → List ℕ → Bool
+cancelledBy token r = held r && same (cancelOf r) token
+
+unfoldable pub vacant : List ℕ → Bool
+vacant r = not (held r)
+
+-- The first place that passes a test, counted from 0.
+unfoldable pub next : Option ℕ → Option ℕ
+next none = none
+next (some i) = some (suc i)
+
+unfoldable pub firstOf : (List ℕ → Bool) → List (List ℕ) → Option ℕ
+firstOf test [] = none
+firstOf test (r ∷ rs) = cond (test r) (some 0) (next (firstOf test rs))
+
+-- The lease keeps the later of the two expiries, and nothing else changes.
+unfoldable pub later : ℕ → List ℕ → List ℕ
+later x r = take 4 r ++ (digits 4 (max (expiryOf r) x) ++ drop 8 r)
+
+unfoldable pub extended : ℕ → List (List ℕ) → ℕ → List (List ℕ)
+extended x ls i = set ls i (later x (getD ls i []))
+
+-- A record goes to the first empty place, else to a new extra.
+unfoldable pub placedAt : List ℕ → List (List ℕ) → Option ℕ → List (List ℕ)
+placedAt r ls none = ls ++ (r ∷ [])
+placedAt r ls (some i) = set ls i r
+
+-- Empty extras at the tail are dropped.
+unfoldable pub withLast : List ℕ → List (List ℕ) → List (List ℕ)
+withLast r [] = cond (held r) (r ∷ []) []
+withLast r (s ∷ rs) = r ∷ (s ∷ rs)
+
+unfoldable pub trim : List (List ℕ) → List (List ℕ)
+trim [] = []
+trim (r ∷ rs) = withLast r (trim rs)
+
+unfoldable pub dropTail : List (List ℕ) → List (List ℕ)
+dropTail ls = take 4 ls ++ trim (drop 4 ls)
+
+-- Add: a known renewal token keeps the later expiry; otherwise the record is placed.
+unfoldable pub addedAt : List ℕ → List (List ℕ) → Option ℕ → List (List ℕ)
+addedAt r ls none = placedAt r ls (firstOf vacant ls)
+addedAt r ls (some i) = extended (expiryOf r) ls i
+
+unfoldable pub added : List ℕ → List (List ℕ) → List (List ℕ)
+added r ls = addedAt r ls (firstOf (renewedBy (renewalOf r)) ls)
+
+-- Renew: the first lease with that token keeps the later expiry.
+unfoldable pub renewedAt : ℕ → List (List ℕ) → Option ℕ → List (List ℕ)
+renewedAt x ls none = ls
+renewedAt x ls (some i) = extended x ls i
+
+unfoldable pub renewed : List ℕ → ℕ → List (List ℕ) → List (List ℕ)
+renewed token x ls = renewedAt x ls (firstOf (renewedBy token) ls)
+
+-- Cancel: the first lease with that cancel token becomes 92 zero bytes; the empty tail is dropped.
+unfoldable pub cancelledAt : List (List ℕ) → Option ℕ → List (List ℕ)
+cancelledAt ls none = ls
+cancelledAt ls (some i) = dropTail (set ls i noLease)
+
+unfoldable pub cancelled : List ℕ → List (List ℕ) → List (List ℕ)
+cancelled token ls = cancelledAt ls (firstOf (cancelledBy token) ls)
+
+-- Whether some lease has the token, and how many leases there are.
+unfoldable pub knows : (List ℕ → Bool) → List (List ℕ) → Bool
+knows test ls = isSome (firstOf test ls)
+
+unfoldable pub present : List (List ℕ) → ℕ
+present [] = 0
+present (r ∷ rs) = cond (held r) 1 0 + present rs

@@ -1,0 +1,81 @@
+-- Offsets, pieces, tests and replies (document 01, "Testing, writing, leasing").
+use Prim.Native.Nat.{ℕ, zero, suc, _+_}
+use mathlib.Core.Bool.{Bool, true, false, cond, not, _&&_}
+use mathlib.Core.List.{List, [], _∷_, _++_, map}
+use mathlib.Core.Option.{Option, none, some}
+use lib.ListN.{length, take, drop}
+use lib.Dec.{eqb, leb, ltb}
+use lib.IntN.{ℤ, pos, negsuc}
+use Rattle.octets.specs.Numbers.{digits}
+use Rattle.octets.specs.Strings.{order, join}
+use Rattle.rules.specs.Requests.{Test, Read}
+
+-- How an offset is resolved on data of a size: a position, or none where row 4 refuses it.
+unfoldable pub resolve : ℤ → ℕ → Option ℕ
+resolve (pos n) size = some n
+resolve (negsuc k) size = none
+
+unfoldable pub isSome : Option ℕ → Bool
+isSome none = false
+isSome (some n) = true
+
+unfoldable pub orZero : Option ℕ → ℕ
+orZero none = 0
+orZero (some n) = n
+
+unfoldable pub resolves : ℤ → ℕ → Bool
+resolves o size = isSome (resolve o size)
+
+unfoldable pub position : ℤ → ℕ → ℕ
+position o size = orZero (resolve o size)
+
+-- The data from an offset on, at most so many bytes, stopping at the end of data.
+unfoldable pub piece : List ℕ → ℤ → ℕ → List ℕ
+piece d o n = take n (drop (position o (length d)) d)
+
+unfoldable pub testPiece : List ℕ → Test → List ℕ
+testPiece d t = piece d (t .offset) (t .count)
+
+-- What a read returns, and whether its offset plus length exceeds the size (row 6).
+unfoldable pub readPiece : List ℕ → Read → List ℕ
+readPiece d r = piece d (r .offset) (r .count)
+
+unfoldable pub exceeds : List ℕ → Read → Bool
+exceeds d r = ltb (length d) (position (r .offset) (length d) + r .count)
+
+-- What the opcodes lt, le, eq, ne, ge, gt make of -1, 0 or 1.
+unfoldable pub below : ℤ → Bool
+below (pos n) = false
+below (negsuc k) = true
+
+unfoldable pub level : ℤ → Bool
+level (pos n) = eqb n 0
+level (negsuc k) = false
+
+unfoldable pub atMost : ℤ → Bool
+atMost z = cond (below z) true (level z)
+
+unfoldable pub decides : ℕ → ℤ → Bool
+decides op z =
+    cond (eqb op 1) (below z)
+    (cond (eqb op 2) (atMost z)
+    (cond (eqb op 3) (level z)
+    (cond (eqb op 4) (not (level z))
+    (cond (eqb op 5) (not (below z)) (not (atMost z))))))
+
+-- The piece on the left, the specimen on the right.
+unfoldable pub holds : List ℕ → Test → Bool
+holds d t = decides (t .opcode) (order (testPiece d t) (t .specimen))
+
+-- Over a table: whether every entry passes, whether some entry does.
+unfoldable pub every : {A : Type 0} → (A → Bool) → List A → Bool
+every test [] = true
+every test (x ∷ xs) = test x && every test xs
+
+unfoldable pub anyOf : {A : Type 0} → (A → Bool) → List A → Bool
+anyOf test [] = false
+anyOf test (x ∷ xs) = cond (test x) true (anyOf test xs)
+
+-- A reply: a table of 4-byte lengths, one for each piece, then the pieces.
+unfoldable pub replyOf : List (List ℕ) → List ℕ
+replyOf ps = join (map (λ s. digits 4 (length s)) ps) ++ join ps

@@ -1,0 +1,68 @@
+-- Writes and the cut (document 01, "Testing, writing, leasing").
+use Prim.Native.Nat.{ℕ, zero, suc, _+_, _-_, max, min}
+use mathlib.Core.Bool.{Bool, true, false, cond, _&&_}
+use mathlib.Core.List.{List, [], _∷_, _++_}
+use mathlib.Core.Option.{Option, none, some}
+use lib.ListN.{length, take, drop, replicate}
+use lib.Dec.{leb, ltb}
+use Rattle.rules.specs.Requests.{Write}
+use Rattle.rules.specs.Testing.{resolves, position}
+
+-- Zeros fill up to n.
+unfoldable pub padTo : List ℕ → ℕ → List ℕ
+padTo d n = d ++ replicate (n - length d) 0
+
+-- One write at a position: an empty one does nothing; otherwise zeros up to it, and the new bytes go in.
+unfoldable pub writeAt : List ℕ → ℕ → List ℕ → List ℕ
+writeAt d at [] = d
+writeAt d at (b ∷ bs) = (take at (padTo d at) ++ (b ∷ bs)) ++ drop (at + suc (length bs)) d
+
+-- The size after a write of k bytes: the larger of the old size and position plus length.
+unfoldable pub grow : ℕ → ℕ → ℕ → ℕ
+grow n at zero = n
+grow n at (suc k) = max n (at + suc k)
+
+-- Whether a write of k bytes at a position covers position i.
+unfoldable pub covers : ℕ → ℕ → ℕ → Bool
+covers at k i = leb at i && ltb i (at + k)
+
+-- A write whose position is known.
+pub record Placed : Type 0 where
+  pub at : ℕ
+  pub bytes : List ℕ
+
+-- The writes in order, each offset resolved on the size that those before it give.
+unfoldable pub placed : List Write → ℕ → List Placed
+placed [] n = []
+placed (w ∷ ws) n =
+    record { at = position (w .offset) n; bytes = w .bytes }
+    ∷ placed ws (grow n (position (w .offset) n) (length (w .bytes)))
+
+unfoldable pub writesResolve : List Write → ℕ → Bool
+writesResolve [] n = true
+writesResolve (w ∷ ws) n =
+    resolves (w .offset) n && writesResolve ws (grow n (position (w .offset) n) (length (w .bytes)))
+
+unfoldable pub writeAll : List Placed → List ℕ → List ℕ
+writeAll [] d = d
+writeAll (w ∷ ws) d = writeAll ws (writeAt d (w .at) (w .bytes))
+
+unfoldable pub sizeAll : List Placed → ℕ → ℕ
+sizeAll [] n = n
+sizeAll (w ∷ ws) n = sizeAll ws (grow n (w .at) (length (w .bytes)))
+
+-- The cut follows the writes: a new length below the size cuts, a larger one does nothing.
+unfoldable pub cutTo : Option ℕ → List ℕ → List ℕ
+cutTo none d = d
+cutTo (some n) d = take n d
+
+unfoldable pub cutSize : Option ℕ → ℕ → ℕ
+cutSize none n = n
+cutSize (some m) n = min m n
+
+-- The data after a test-and-write, and its size.
+unfoldable pub rewritten : List Write → Option ℕ → List ℕ → List ℕ
+rewritten ws cut d = cutTo cut (writeAll (placed ws (length d)) d)
+
+unfoldable pub finalSize : List Write → Option ℕ → ℕ → ℕ
+finalSize ws cut n = cutSize cut (sizeAll (placed ws n) n)

@@ -1,0 +1,9 @@
+// The rules of document 01: what each request does. Their definitions are in specs/, what holds of them in proofs/.
+
+// The answer record: the outcome's number, a node id (the container's on 5, else zeros) and a count.
+#[repr(C)]
+pub struct Answer {
+    pub number: u32,
+    pub node: [u8; 20],
+    pub count: u64,
+}
