@@ -1,0 +1,128 @@
+-- Demand 3, whole, over bytes. Assumes nothing.
+use mathlib.Core.Path.{_≡_, refl, sym, ap, _∙_}
+use mathlib.Core.Bool.{Bool, true, false, cond, not, true≢false, false≢true}
+use mathlib.Core.List.{List, [], _∷_, _++_}
+use mathlib.Core.Option.{Option, none, some}
+use Prim.Native.Nat.{ℕ, zero, suc, _+_, _≤_, _<_}
+use lib.ListN.{length, getD}
+use lib.Dec.{eqb, leb}
+use native.Mathlib.Omega.{arith}
+use borrow.Author.Tests.{eqb-true, leb-true}
+use Rattle.format.specs.Container.{least, limit, lengthAllowed, wellFormed, dataOf, leasesOf}
+use Rattle.format.proofs.WellFormed.{both}
+use Rattle.format.specs.Parts.{Parts, Valid, encode, fresh}
+use Rattle.format.proofs.RoundTrip.{encode-formed, leases-encode, data-encode, fresh-valid}
+use Rattle.rules.specs.Requests.{Request, testWrite, add, renew, cancel, read, requestOf}
+use Rattle.rules.specs.Writing.{placed, rewritten}
+use Rattle.rules.specs.Outcomes.{withBytes, withLeases, after, afterOf, row, createOutcome, createdContainer}
+use Rattle.rules.proofs.Kept.{clear, not-false}
+use Rattle.histories.specs.Runs.{Call, Heard, hears, leaves, ruleOutcome, ruleHears, ruleLeaves, answers, final, isLease, isData, only, beside, noRoom, Never, Woven}
+use Rattle.histories.specs.Accepted.{Change, sizeAfter, value, lastSays, byteAfter, changesOf, took, accepted}
+use Rattle.histories.specs.Claims.{Alike, ByRules, Told, Demand3}
+use Rattle.histories.proofs.Sides.{Sided, Agree, agree}
+use Rattle.histories.proofs.Follows.{valid-final, follows-answers, follows-final}
+use Rattle.histories.proofs.ChangeLaws.{performAll, length-performAll, at-performAll, performAll-append, perform-changes}
+use Rattle.histories.proofs.Steps.{heardBy, leftBy, earlyOf, heard-number, dataSide, leaseSide, room-stays, data-calls, lease-calls, follows}
+
+-- ---- what the rules give
+pub by-rules : (h : List Call) (p : Parts) → Valid p → ByRules h (encode p) p
+by-rules h p v =
+    let f : Valid (final ruleLeaves h p) = valid-final Valid encode ruleHears ruleLeaves hears leaves follows h p v in
+    let e : final leaves h (encode p) ≡ encode (final ruleLeaves h p) = follows-final Valid encode ruleHears ruleLeaves hears leaves follows h p v in
+    record {
+      heard = follows-answers Valid encode ruleHears ruleLeaves hears leaves follows h p v;
+      buffer = e;
+      leases = rw e (leases-encode (final ruleLeaves h p) f);
+      formed = rw e (encode-formed (final ruleLeaves h p) f);
+    }
+
+-- ---- woven histories: the sides agree, so the whole parts do
+room-final : (h : List Call) (p : Parts) → final ruleLeaves h p .room ≡ p .room
+unfolding final
+room-final [] p = refl
+room-final (x ∷ h) p = room-final h (ruleLeaves x p) ∙ room-stays x p
+
+parts-agree : (p q : Parts) → dataSide p ≡ dataSide q → leaseSide p ≡ leaseSide q → p .room ≡ q .room → p ≡ q
+unfolding dataSide leaseSide
+parts-agree p q d l r = λ i. record { room = r i; node = d i .node; enabler = d i .enabler; bytes = d i .bytes; leases = l i .leases }
+
+pub woven-alike : (h k : List Call) (p : Parts) → Valid p → Woven h k →
+    Never noRoom (answers hears leaves h (encode p)) → Never noRoom (answers hears leaves k (encode p)) → Alike h k (encode p)
+woven-alike h k p v w nh nk =
+    let bh : ByRules h (encode p) p = by-rules h p v in
+    let bk : ByRules k (encode p) p = by-rules k p v in
+    let mh : Never noRoom (answers ruleHears ruleLeaves h p) = rw (bh .heard) at nh in
+    let mk : Never noRoom (answers ruleHears ruleLeaves k p) = rw (bk .heard) at nk in
+    let d = agree isData noRoom ruleHears ruleLeaves dataSide (λ x p. heardBy (earlyOf x p) x p) (λ x p. leftBy (earlyOf x p) x p) data-calls h k p (w .data-calls) mh mk in
+    let l = agree isLease noRoom ruleHears ruleLeaves leaseSide (λ x p. heardBy (earlyOf x p) x p) (λ x p. leftBy (earlyOf x p) x p) lease-calls h k p (w .lease-calls) mh mk in
+    let e : final ruleLeaves h p ≡ final ruleLeaves k p = parts-agree (final ruleLeaves h p) (final ruleLeaves k p) (d .view-agrees) (l .view-agrees) (room-final h p ∙ sym (room-final k p)) in
+    record {
+      data-heard = rw (bh .heard, bk .heard) (d .answers-agree);
+      lease-heard = rw (bh .heard, bk .heard) (l .answers-agree);
+      bytes-equal = bh .buffer ∙ ap encode e ∙ sym (bk .buffer);
+    }
+
+-- ---- the data bytes: the accepted changes, performed
+after-bytes : (p : Parts) (r : Option Request) → afterOf p r .bytes ≡ performAll (changesOf r (length (p .bytes))) (p .bytes)
+unfolding afterOf after withBytes withLeases changesOf performAll rewritten
+after-bytes p none = refl
+after-bytes p (some (testWrite k ts ws cut)) = perform-changes (placed ws (length (p .bytes))) cut (p .bytes)
+after-bytes p (some (add r)) = refl
+after-bytes p (some (renew t x)) = refl
+after-bytes p (some (cancel t)) = refl
+after-bytes p (some (read rs)) = refl
+
+step-bytes : (x : Call) (p : Parts) → ruleLeaves x p .bytes ≡ performAll (took x (ruleHears x p) (length (p .bytes))) (p .bytes)
+unfolding ruleLeaves took performAll
+step-bytes x p = rw heard-number (go (eqb (ruleOutcome x p) 0))
+  where
+    go : (b : Bool) → (cond b (afterOf p (requestOf (x .request))) p) .bytes ≡ performAll (cond b (changesOf (requestOf (x .request)) (length (p .bytes))) []) (p .bytes)
+    go true = after-bytes p (requestOf (x .request))
+    go false = refl
+
+bytes-accepted : (h : List Call) (p : Parts) → final ruleLeaves h p .bytes ≡ performAll (accepted h (answers ruleHears ruleLeaves h p) (length (p .bytes))) (p .bytes)
+unfolding final answers accepted performAll
+bytes-accepted [] p = refl
+bytes-accepted (x ∷ xs) p =
+    let d : List ℕ = p .bytes in
+    let os : List Change = took x (ruleHears x p) (length d) in
+    let n : length (ruleLeaves x p .bytes) ≡ sizeAfter os (length d) = ap length (step-bytes x p) ∙ length-performAll os d in
+    let heard : List Heard = answers ruleHears ruleLeaves xs (ruleLeaves x p) in
+    bytes-accepted xs (ruleLeaves x p)
+    ∙ ap (λ (k : ℕ). performAll (accepted xs heard k) (ruleLeaves x p .bytes)) n
+    ∙ ap (performAll (accepted xs heard (sizeAfter os (length d)))) (step-bytes x p)
+    ∙ sym (performAll-append os (accepted xs heard (sizeAfter os (length d))) d)
+
+told : (os : List Change) → Told os (performAll os [])
+unfolding byteAfter
+told os = record { size = length-performAll os []; each = λ i. at-performAll os [] i }
+
+pub data-told : (h : List Call) (p : Parts) → Valid p → p .bytes ≡ [] → Told (accepted h (answers hears leaves h (encode p)) 0) (dataOf (final leaves h (encode p)))
+data-told h p v e =
+    let b : ByRules h (encode p) p = by-rules h p v in
+    let f : Valid (final ruleLeaves h p) = valid-final Valid encode ruleHears ruleLeaves hears leaves follows h p v in
+    let os : List Change = accepted h (answers ruleHears ruleLeaves h p) 0 in
+    let d : final ruleLeaves h p .bytes ≡ performAll os [] = bytes-accepted h p ∙ rw e in
+    rw (b .buffer, b .heard, data-encode (final ruleLeaves h p) f, d) (told os)
+
+pub demand-3-parts : (p : Parts) → Valid p → p .bytes ≡ [] → Demand3 (encode p) p
+demand-3-parts p v e = record { woven = λ h k. woven-alike h k p v; rules = λ h. by-rules h p v; told = λ h. data-told h p v e }
+
+-- create with outcome 0 makes the fresh container
+pub created : (b node enabler : List ℕ) → createOutcome b node enabler ≡ 0 → createdContainer b node enabler ≡ encode (fresh (length b) node enabler)
+unfolding createdContainer
+created b node enabler e = rw e
+
+pub created-valid : (b node enabler : List ℕ) → createOutcome b node enabler ≡ 0 → Valid (fresh (length b) node enabler)
+unfolding createOutcome lengthAllowed
+created-valid b node enabler e =
+    let x = clear 1 _ _ (omega arith) e in
+    let y = clear 3 _ _ (omega arith) (x .1) in
+    let a = both (leb least (length b)) (leb (length b) limit) (not-false _ (x .0)) in
+    let l = both (eqb (length node) 20) (eqb (length enabler) 32) (not-false _ (y .0)) in
+    fresh-valid (length b) node enabler (leb-true _ _ (a .0)) (leb-true _ _ (a .1)) (eqb-true _ _ (l .0)) (eqb-true _ _ (l .1))
+
+-- DEMAND 3: of every container that create has just made with outcome 0, at any allowed buffer length
+pub demand-3 : (b node enabler : List ℕ) → createOutcome b node enabler ≡ 0 → Demand3 (createdContainer b node enabler) (fresh (length b) node enabler)
+unfolding fresh
+demand-3 b node enabler e = rw (created b node enabler e) (demand-3-parts (fresh (length b) node enabler) (created-valid b node enabler e) refl)

@@ -1,0 +1,36 @@
+-- What is claimed of histories (demand 3). Proved in proofs/Demand3.antt.
+use Prim.Native.Nat.{ℕ}
+use mathlib.Core.Path.{_≡_}
+use mathlib.Core.Bool.{true}
+use mathlib.Core.List.{List}
+use lib.ListN.{length, getD}
+use Rattle.format.specs.Container.{wellFormed, dataOf, leasesOf}
+use Rattle.format.specs.Parts.{Parts, encode}
+use Rattle.histories.specs.Runs.{Call, Heard, hears, leaves, ruleHears, ruleLeaves, answers, final, isLease, isData, beside, noRoom, Never, Woven}
+use Rattle.histories.specs.Accepted.{Change, sizeAfter, byteAfter, accepted}
+
+-- Two histories on the same container bytes: beside each read and test-and-write the same is heard in both, beside each
+-- lease request too, and the whole buffer ends the same.
+pub record Alike (h k : List Call) (c : List ℕ) : Type 0 where
+  pub data-heard : beside isData h (answers hears leaves h c) ≡ beside isData k (answers hears leaves k c)
+  pub lease-heard : beside isLease h (answers hears leaves h c) ≡ beside isLease k (answers hears leaves k c)
+  pub bytes-equal : final leaves h c ≡ final leaves k c
+
+-- After a history on container bytes c whose parts are p: everything heard, the whole buffer and every lease record are
+-- what the rules give for the parts alone.
+pub record ByRules (h : List Call) (c : List ℕ) (p : Parts) : Type 0 where
+  pub heard : answers hears leaves h c ≡ answers ruleHears ruleLeaves h p
+  pub buffer : final leaves h c ≡ encode (final ruleLeaves h p)
+  pub leases : leasesOf (final leaves h c) ≡ final ruleLeaves h p .leases
+  pub formed : wellFormed (final leaves h c) ≡ true
+
+-- Data has the size that the changes give it, and each byte is the one that they leave there.
+pub record Told (os : List Change) (d : List ℕ) : Type 0 where
+  pub size : length d ≡ sizeAfter os 0
+  pub each : (i : ℕ) → getD d i 0 ≡ byteAfter os i
+
+-- Demand 3 of container bytes c with parts p.
+pub record Demand3 (c : List ℕ) (p : Parts) : Type 0 where
+  pub woven : (h k : List Call) → Woven h k → Never noRoom (answers hears leaves h c) → Never noRoom (answers hears leaves k c) → Alike h k c
+  pub rules : (h : List Call) → ByRules h c p
+  pub told : (h : List Call) → Told (accepted h (answers hears leaves h c) 0) (dataOf (final leaves h c))
