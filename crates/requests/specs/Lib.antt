@@ -1,0 +1,3 @@
+-- What the code that takes a request apart answers.
+pub mod Cursors
+pub mod Forms

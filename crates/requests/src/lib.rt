@@ -1,0 +1,3 @@
+// A request's bytes taken apart: a cursor handed on by value, and the form of a whole request.
+pub mod cursors;
+pub mod forms;
