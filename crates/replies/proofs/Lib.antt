@@ -1,0 +1,2 @@
+-- Laws about pieces and replies, which the proofs of this crate and of those above cite.
+pub mod PieceLaws
