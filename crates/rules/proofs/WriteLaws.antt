@@ -134,7 +134,7 @@ unfolding grow
 grow-small n off zero h = refl
 grow-small n off (suc k) h = omega arith
 
-size-clipped : (F : ℕ) (ws : List Placed) → sizeAll (map (clip F) ws) F ≡ F
+pub size-clipped : (F : ℕ) (ws : List Placed) → sizeAll (map (clip F) ws) F ≡ F
 unfolding sizeAll clip
 size-clipped F [] = refl
 size-clipped F (w ∷ ws) = ap (sizeAll (map (clip F) ws)) (grow-small F (w .at) (length (take (F - w .at) (w .bytes))) (simp length-take (omega arith))) ∙ size-clipped F ws
@@ -165,7 +165,7 @@ unfolding overAll
 over-clipped F [] i v h = refl
 over-clipped F (w ∷ ws) i v h = over-clipped F ws i (over (clip F w) i v) h ∙ rw over-clip
 
-length-resize : (F : ℕ) (d : List ℕ) → length (resize F d) ≡ F
+pub length-resize : (F : ℕ) (d : List ℕ) → length (resize F d) ≡ F
 unfolding resize
 length-resize F d = simp (length-take, length-padTo) (omega arith)
 
@@ -187,7 +187,7 @@ take-writes F ws d h = ext-getD 0 (take F (writeAll ws d)) (writeAll (map (clip 
         let g : i < F = omega (arith, ll) in
         getD-take F (writeAll ws d) i 0 g ∙ at-writeAll ws d i ∙ sym (at-writeAll (map (clip F) ws) (resize F d) i ∙ over-clipped F ws i (getD (resize F d) i 0) g ∙ ap (overAll ws i) (at-resize F d i g))
 
-take-min : (n : ℕ) (d : List ℕ) → take n d ≡ take (min n (length d)) d
+pub take-min : (n : ℕ) (d : List ℕ) → take n d ≡ take (min n (length d)) d
 take-min n d = go (ltb n (length d)) refl
   where
     go : (b : Bool) → ltb n (length d) ≡ b → take n d ≡ take (min n (length d)) d
