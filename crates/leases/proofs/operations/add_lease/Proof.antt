@@ -1,0 +1,84 @@
+-- The answer by where the token stands. Assumes nothing.
+use mathlib.Core.Path.{sym, _∙_}
+use borrow.Author.Needs.{needs}
+use Rattle.format.specs.Container.{renewalOf, expiryOf}
+use Rattle.leases.specs.Places.{hasToken}
+use Rattle.leases.proofs.OperationLaws.{found-inside, add-here, unknown}
+use Rattle.leases.proofs.operations.add_lease.Statement.{statement}
+use Rattle.leases.proofs.operations.add_lease.Tie as tie
+
+sub-find : tie.Need-sub-find
+sub-find c = search needs
+
+part-find-start : tie.Need-part-find-start
+part-find-start c = search needs
+
+part-find-end : tie.Need-part-find-end
+part-find-end c = search needs
+
+find-requires : tie.Need-find-requires
+find-requires c κs = search needs
+
+enum-known-i : tie.Need-enum-known-i
+enum-known-i c = search needs
+
+count-leases-requires : tie.Need-count-leases-requires
+count-leases-requires c κs = search needs
+
+u32-at-requires : tie.Need-u32-at-requires
+u32-at-requires c κs = search needs
+
+extend-requires : tie.Need-extend-requires
+unfolding renewalOf
+extend-requires c κs =
+    let s = c .before .before .before .before .before .before .before .before .before .before .before .before in
+    let a = s .args in
+    (s .pre .0, found-inside (a .c .now) (a .size) (a .extras) (s .pre .0) (hasToken 8 (renewalOf (a .lease .now))) _ (sym (c .before .before .before .before .before .i .given .1) ∙ c .before .before .before .before .before .before .before .find .ensures))
+
+enum-told : tie.Need-enum-told
+enum-told c = search needs
+
+place-new-requires : tie.Need-place-new-requires
+unfolding renewalOf
+place-new-requires c κs =
+    let s = c .before .before .before .before .before .before .before .before in
+    let a = s .args in
+    (s .pre .0, s .pre .1, s .pre .2, unknown (a .c .now) (a .size) (a .extras) (s .pre .0) (a .lease .now) (sym (c .before .enum-told .given .1) ∙ c .before .before .before .find .ensures))
+
+same-length : tie.Need-same-length
+same-length c = search needs
+
+returns : tie.Need-returns
+unfolding renewalOf expiryOf
+returns c =
+    let s = c .before .before .before .before .before .before .before .before .before .before .before .before .before .before .before in
+    let a = s .args in
+    add-here (a .c .now) (a .size) (a .extras) (s .pre .0) (a .lease .now) _ _ _ _ (sym (c .before .before .before .before .before .before .before .before .i .given .1) ∙ c .before .before .before .before .before .before .before .before .before .before .find .ensures) (c .before .before .before .before .before .count-leases .ensures) (c .before .before .before .u32-at .ensures) (c .before .before .extend .ensures)
+
+same-length-2 : tie.Need-same-length-2
+same-length-2 c = search needs
+
+returns-2 : tie.Need-returns-2
+returns-2 c =
+    let s = c .before .before .before .before .before .before .before .before .before .before .before in
+    let a = s .args in
+    c .before .before .place-new .ensures
+
+pub add-lease-spec : {M : Type 1} → statement M
+add-lease-spec =
+    tie.close
+    (tie.spec
+    sub-find
+    part-find-start
+    part-find-end
+    find-requires
+    enum-known-i
+    count-leases-requires
+    u32-at-requires
+    extend-requires
+    enum-told
+    place-new-requires
+    same-length
+    returns
+    same-length-2
+    returns-2)

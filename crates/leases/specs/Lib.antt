@@ -1,0 +1,3 @@
+-- What the lease code's contracts cite beside the rules.
+pub mod Places
+pub mod Operations
