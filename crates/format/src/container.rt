@@ -19,14 +19,14 @@ enum Fields {
     Agree(usize, usize),
 }
 
+// What a container begins with.
+pub const MAGIC: [u8; 32] = *b"tahoe mutable container v1\x0a\x75\x09\x44\x03\x8e";
+
 pub fn has_magic(c: &[u8]) -> bool
     requires { ⌜ 32 ≤ length (now c) ⌝ }
     ensures { λ r. ⌜ r ≡ same (take 32 (now (c .entry))) magic ⌝ }
 {
-    octets::strings::same(
-        &c[..32],
-        b"tahoe mutable container v1\x0a\x75\x09\x44\x03\x8e",
-    )
+    octets::strings::same(&c[..32], &MAGIC)
 }
 
 // The record at p has an owner or is 92 zero bytes.
