@@ -1,0 +1,29 @@
+-- Parts in order inside a slice, given by their boundaries, for any edition of a share.
+use Prim.Native.Nat.{ℕ, zero, suc, _-_}
+use mathlib.Core.Bool.{Bool, true, false, cond, _&&_}
+use mathlib.Core.List.{List, [], _∷_}
+use lib.ListN.{take, drop, getD}
+use lib.Dec.{leb, ltb}
+
+-- A boundary, and whether it stands strictly above the one before.
+pub record Bound : Type 0 where
+  pub at : ℕ
+  pub strict : Bool
+
+abbrev pub above : ℕ → Bound
+above n = record { at = n; strict = true }
+
+abbrev pub from : ℕ → Bound
+from n = record { at = n; strict = false }
+
+-- The boundaries after `a` stand in order.
+unfoldable pub inOrder : ℕ → List Bound → Bool
+inOrder a [] = true
+inOrder a (b ∷ bs) = cond (b .strict) (ltb a (b .at)) (leb a (b .at)) && inOrder (b .at) bs
+
+-- Part i of a slice: from boundary i to boundary i + 1.
+unfoldable pub partBetween : ℕ → ℕ → List ℕ → List ℕ
+partBetween a e s = take (e - a) (drop a s)
+
+unfoldable pub partOf : ℕ → List ℕ → List ℕ → List ℕ
+partOf i bs s = partBetween (getD bs i 0) (getD bs (suc i) 0) s

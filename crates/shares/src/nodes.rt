@@ -1,0 +1,63 @@
+// The hash chain's node numbers, against the tree over the shares.
+use octets::numbers;
+ghost use mathlib.Core.Path.{_≡_};
+ghost use Prim.Native.Nat.{_+_, _*_, _≤_};
+ghost use lib.ListN.{length};
+ghost use Rattle.shares.specs.Share.{depth, power, nodesFrom, occurs, nodesOk};
+
+// The tree over the shares: its depth c, the least with 2^c at or above their number, and its 2^c leaves.
+pub(crate) struct Over {
+    pub(crate) depth: usize,
+    pub(crate) leaves: usize,
+}
+
+pub(crate) fn tree_over(total: u8) -> Over
+    ensures { λ r. ⌜ (r .depth ≡ depth total) × (r .leaves ≡ power (depth total)) ⌝ }
+{
+    let n = total as usize;
+    let mut depth = 0;
+    let mut leaves = 1;
+    while leaves < n {
+        leaves = 2 * leaves;
+        depth += 1;
+    }
+    Over { depth, leaves }
+}
+
+// Whether x is among the n node numbers from p on.
+fn occurs(s: &[u8], x: u16, n: usize, p: usize) -> bool
+    requires { ⌜ p + 34 * n ≤ length (now s) ⌝ }
+    ensures { λ r. ⌜ r ≡ occurs x (nodesFrom n p (now (s .entry))) ⌝ }
+{
+    let mut left = n;
+    let mut at = p;
+    while 0 < left {
+        if x == numbers::u16_at(s, at) {
+            return true;
+        }
+        left -= 1;
+        at += 34;
+    }
+    false
+}
+
+// Whether of the n node numbers from p on each is below `top` and none comes again.
+pub(crate) fn nodes_ok(s: &[u8], top: usize, n: usize, p: usize) -> bool
+    requires { ⌜ p + 34 * n ≤ length (now s) ⌝ }
+    ensures { λ r. ⌜ r ≡ nodesOk top (nodesFrom n p (now (s .entry))) ⌝ }
+{
+    let mut left = n;
+    let mut at = p;
+    while 0 < left {
+        let x = numbers::u16_at(s, at);
+        if top <= x as usize {
+            return false;
+        }
+        left -= 1;
+        at += 34;
+        if occurs(s, x, left, at) {
+            return false;
+        }
+    }
+    true
+}
