@@ -1,0 +1,111 @@
+-- What a lease request answers and leaves, by the rules of the whole container. Assumes nothing.
+use mathlib.Core.Path.{_≡_, refl, sym, ap, _∙_}
+use mathlib.Core.Bool.{Bool, true, false, cond, not, _&&_}
+use mathlib.Core.List.{List, [], _∷_, _++_}
+use mathlib.Core.Option.{Option, none, some}
+use Prim.Native.Nat.{ℕ, _+_, _-_, _≤_}
+use native.Mathlib.Omega.{arith}
+use lib.ListN.{length, take, drop, length-drop}
+use lib.Dec.{eqb, leb, ltb}
+use lib.Seq.{take-all}
+use borrow.Author.Tests.{eqb-true}
+use Rattle.octets.specs.Moves.{put}
+use Rattle.format.specs.Container.{wellFormed, held, renewalOf}
+use Rattle.format.specs.Parts.{Parts, partsOf, encode, used}
+use Rattle.format.specs.Known.{Known}
+use Rattle.format.proofs.WellFormed.{both}
+use Rattle.rules.specs.Requests.{Request, testWrite, add, renew, cancel, read, requestOf, addOk, renewOk, cancelOk}
+use Rattle.rules.specs.Leasing.{renewedBy, cancelledBy, knows, present}
+use Rattle.rules.specs.Outcomes.{row, lowest, rows, roomRows, requestRows, replies, counted, answerOf, noNode, answerTo, afterOf, after, replyBytes, replyTo, outcome, answered, containerAfter, replyAfter}
+use Rattle.rules.proofs.OutcomeLaws.{outcome-formed}
+use Rattle.rules.proofs.RequestLaws.{add-proper}
+use Rattle.leases.specs.Operations.{leaseOutcome, leaseDone, leaseContainer}
+use Rattle.leases.specs.declared.operations.Done.{Done}
+
+-- Kinds 2 to 4.
+abbrev pub LeaseRequest : Request → Type 0
+LeaseRequest (testWrite k ts ws cut) = ⊥
+LeaseRequest (add r) = Unit {0}
+LeaseRequest (renew t x) = Unit {0}
+LeaseRequest (cancel t) = Unit {0}
+LeaseRequest (read rs) = ⊥
+
+-- Their numbers are 0, 9, 10 and 11: never 5, and 8 is no reply of theirs.
+pub record Plain (n : ℕ) : Type 0 where
+  pub no-node : eqb n 5 ≡ false
+  pub only-done : replies n ≡ eqb n 0
+
+one-row : (b : Bool) → Plain (lowest (row 9 b ∷ []))
+unfolding lowest replies
+one-row true = record { no-node = refl; only-done = refl }
+one-row false = record { no-node = refl; only-done = refl }
+
+two-rows : (a b : Bool) → Plain (lowest (row 10 a ∷ (row 11 b ∷ [])))
+unfolding lowest replies
+two-rows true b = record { no-node = refl; only-done = refl }
+two-rows false true = record { no-node = refl; only-done = refl }
+two-rows false false = record { no-node = refl; only-done = refl }
+
+plain : (p : Parts) (q : Request) → LeaseRequest q → Plain (leaseOutcome p q)
+unfolding leaseOutcome rows roomRows
+plain p (testWrite k ts ws cut) l = absurd l
+plain p (add r) l = two-rows (leb 64 (present (p .leases)) && not (knows (renewedBy (renewalOf r)) (p .leases))) (ltb (p .room) (used (after p (add r))))
+plain p (renew t x) l = one-row (not (knows (renewedBy t) (p .leases)))
+plain p (cancel t) l = one-row (not (knows (cancelledBy t) (p .leases)))
+plain p (read rs) l = absurd l
+
+-- The reply space does not matter to them.
+outcome-lease : (p : Parts) (q : Request) (n : ℕ) → LeaseRequest q → lowest (requestRows p (some q) n) ≡ leaseOutcome p q
+unfolding requestRows leaseOutcome rows
+outcome-lease p (testWrite k ts ws cut) n l = absurd l
+outcome-lease p (add r) n l = refl
+outcome-lease p (renew t x) n l = refl
+outcome-lease p (cancel t) n l = refl
+outcome-lease p (read rs) n l = absurd l
+
+no-reply : (p : Parts) (q : Request) → LeaseRequest q → replyTo p q ≡ []
+unfolding replyTo
+no-reply p (testWrite k ts ws cut) l = absurd l
+no-reply p (add r) l = refl
+no-reply p (renew t x) l = refl
+no-reply p (cancel t) l = refl
+no-reply p (read rs) l = absurd l
+
+module _ (c q : List ℕ) (w : Request) (f : wellFormed c ≡ true) (is : requestOf q ≡ some w) (l : LeaseRequest w) where
+  outcome-is : (r : List ℕ) → outcome c q (length r) ≡ leaseOutcome (partsOf c) w
+  outcome-is r = outcome-formed c q (length r) f ∙ rw is (outcome-lease (partsOf c) w (length r) l)
+
+  pub lease-answered : (d : Done) → d ≡ leaseDone (partsOf c) w → (r : List ℕ) → answerOf (d .number) noNode (d .count) ≡ answered c q r
+  unfolding answered answerTo leaseDone
+  lease-answered d e r =
+      let n = plain (partsOf c) w l in
+      rw (e, outcome-is r, is, n .no-node, n .only-done)
+
+  pub lease-container : (r : List ℕ) → leaseContainer c w ≡ containerAfter c q r
+  unfolding containerAfter leaseContainer afterOf
+  lease-container r = rw (outcome-is r, is)
+
+  pub lease-reply : (r : List ℕ) → r ≡ replyAfter c q r
+  unfolding replyAfter replyBytes
+  lease-reply r = rw (is, no-reply (partsOf c) w l) (go (replies (outcome c q (length r))))
+    where
+      go : (b : Bool) → r ≡ cond b (put 0 [] r) r
+      go true = refl
+      go false = refl
+
+-- The lengths of the three forms.
+pub add-length : (q : List ℕ) → addOk q ≡ true → length q ≡ 93
+unfolding addOk
+add-length q e = eqb-true _ _ (both (eqb (length q) 93) (held (drop 1 q)) e .0)
+
+pub renew-length : (q : List ℕ) → renewOk q ≡ true → length q ≡ 37
+unfolding renewOk
+renew-length q e = eqb-true _ _ e
+
+pub cancel-length : (q : List ℕ) → cancelOk q ≡ true → length q ≡ 33
+unfolding cancelOk
+cancel-length q e = eqb-true _ _ e
+
+-- The request after its first byte, as the slice has it.
+pub rest-is : (q : List ℕ) → take (length q - 1) (drop 1 q) ≡ drop 1 q
+rest-is q = take-all (length q - 1) (drop 1 q) (rw length-drop (omega arith))

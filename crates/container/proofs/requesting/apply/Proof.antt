@@ -1,0 +1,79 @@
+-- The buffer is judged first: outcomes 1 and 2, then the request.
+use mathlib.Core.Path.{_≡_, sym, _∙_}
+use mathlib.Core.List.{List}
+use Prim.Native.Nat.{ℕ}
+use borrow.Author.Needs.{needs}
+use Rattle.format.proofs.JudgedLaws.{judged-formed, judged-malformed, judged-length}
+use Rattle.container.proofs.RefusalLaws.{bad-length, malformed}
+use Rattle.container.proofs.requesting.apply.Statement.{statement}
+use Rattle.container.proofs.requesting.apply.Tie as tie
+
+judge-requires : tie.Need-judge-requires
+judge-requires c κs = search needs
+
+enum-told : tie.Need-enum-told
+enum-told c = search needs
+
+answer-requires : tie.Need-answer-requires
+answer-requires c κs = search needs
+
+enum-told-2 : tie.Need-enum-told-2
+enum-told-2 c = search needs
+
+answer-requires-2 : tie.Need-answer-requires-2
+answer-requires-2 c κs = search needs
+
+enum-known-size : tie.Need-enum-known-size
+enum-known-size c = search needs
+
+apply-formed-requires : tie.Need-apply-formed-requires
+apply-formed-requires c κs =
+    let f = judged-formed (c .before .before .before .before .before .before .before .before .before .before .args .c .now) _ _ (sym (c .before .before .before .size .given .1) ∙ c .before .before .before .before .before .judge .ensures) in
+    record { formed = f .0; size-is = f .1; extras-is = f .2 }
+
+same-length : tie.Need-same-length
+same-length c = search needs
+
+returns : tie.Need-returns
+returns c =
+    let s = c .before .before .before .before .before .before .before .before in
+    let r = bad-length (s .args .c .now) (s .args .q .now) (s .args .r .now) (judged-length _ (sym (c .before .enum-told .given .1) ∙ c .before .before .before .judge .ensures)) in
+    (c .answer .ensures ∙ r .answer, (r .container, r .reply))
+
+same-length-2 : tie.Need-same-length-2
+same-length-2 c = search needs
+
+returns-2 : tie.Need-returns-2
+returns-2 c =
+    let s = c .before .before .before .before .before .before .before .before in
+    let m = judged-malformed (s .args .c .now) (sym (c .before .enum-told2 .given .1) ∙ c .before .before .before .judge .ensures) in
+    let r = malformed (s .args .c .now) (s .args .q .now) (s .args .r .now) (m .0) (m .1) in
+    (c .answer2 .ensures ∙ r .answer, (r .container, r .reply))
+
+same-length-3 : tie.Need-same-length-3
+same-length-3 c = search needs
+
+same-length-4 : tie.Need-same-length-4
+same-length-4 c = search needs
+
+returns-3 : tie.Need-returns-3
+returns-3 c = search needs
+
+pub apply-spec : {M : Type 1} → statement M
+apply-spec =
+    tie.close
+    (tie.spec
+    judge-requires
+    enum-told
+    answer-requires
+    enum-told-2
+    answer-requires-2
+    enum-known-size
+    apply-formed-requires
+    same-length
+    returns
+    same-length-2
+    returns-2
+    same-length-3
+    same-length-4
+    returns-3)

@@ -1,0 +1,3 @@
+-- What the operations' contracts cite beside the rules.
+pub mod Forms
+pub mod Verdicts
