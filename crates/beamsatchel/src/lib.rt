@@ -1,0 +1,37 @@
+// What C and Rust call: numbers and byte slices in, structs of numbers out. Nothing is asked of the caller.
+ghost use mathlib.Core.Path.{_≡_};
+ghost use Rattle.rules.specs.Outcomes.{createAnswer, createdContainer, answered, containerAfter, replyAfter};
+ghost use Rattle.shares.specs.Checked.{checkedOf, checkedContainer};
+use rules::Answer;
+use shares::share::Checked;
+
+#[no_mangle]
+pub extern "C" fn beamsatchel_create(c: &mut [u8], node: &[u8], enabler: &[u8]) -> Answer
+    ensures { λ r. ⌜ r ≡ createAnswer (now (c .entry)) (now (node .entry)) (now (enabler .entry)) ⌝ }
+    ensures { λ _. ⌜ now (c .exit) ≡ createdContainer (now (c .entry)) (now (node .entry)) (now (enabler .entry)) ⌝ }
+{
+    container::creation::create(c, node, enabler)
+}
+
+#[no_mangle]
+pub extern "C" fn beamsatchel_apply(c: &mut [u8], q: &[u8], r: &mut [u8]) -> Answer
+    ensures { λ x. ⌜ x ≡ answered (now (c .entry)) (now (q .entry)) (now (r .entry)) ⌝ }
+    ensures { λ _. ⌜ now (c .exit) ≡ containerAfter (now (c .entry)) (now (q .entry)) (now (r .entry)) ⌝ }
+    ensures { λ _. ⌜ now (r .exit) ≡ replyAfter (now (c .entry)) (now (q .entry)) (now (r .entry)) ⌝ }
+{
+    container::requesting::apply(c, q, r)
+}
+
+#[no_mangle]
+pub extern "C" fn beamsatchel_check_share(s: &[u8]) -> Checked
+    ensures { λ r. ⌜ r ≡ checkedOf (now (s .entry)) ⌝ }
+{
+    shares::share::check(s)
+}
+
+#[no_mangle]
+pub extern "C" fn beamsatchel_check_container(c: &[u8]) -> Checked
+    ensures { λ r. ⌜ r ≡ checkedContainer (now (c .entry)) ⌝ }
+{
+    shares::share::check_container(c)
+}
