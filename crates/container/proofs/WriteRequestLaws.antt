@@ -27,7 +27,7 @@ use Rattle.requests.specs.declared.forms.Table.{Table}
 use Rattle.requests.proofs.FormLaws.{table-facts, table-places}
 use Rattle.writes.specs.Tables as writes
 use Rattle.writes.specs.declared.sizes.Reached.{Reached}
-use Rattle.writes.proofs.TableLaws.{position-bound}
+use Rattle.requests.proofs.CursorLaws.{position-below}
 use Rattle.replies.specs.Pieces.{piecesFrom, resolveFrom, Entries}
 use Rattle.replies.proofs.PieceLaws.{test-pieces, test-resolve}
 use Rattle.container.specs.Forms.{WriteRequest}
@@ -63,7 +63,7 @@ reach-bound zero p b q size = omega arith
 reach-bound (suc n) p b q size =
     let k : ℕ = length (take (entryCount p q) (drop b q)) in
     let l : k ≤ length q = simp (length-take, length-drop) (omega arith) in
-    omega (arith, position-bound p q size, grow-bound size (position (entryOffset p q) size) k, reach-bound n (p + 8) (b + entryCount p q) q (grow size (position (entryOffset p q) size) k))
+    omega (arith, position-below p q size, grow-bound size (position (entryOffset p q) size) k, reach-bound n (p + 8) (b + entryCount p q) q (grow size (position (entryOffset p q) size) k))
 
 cut-bound : (cut : Option ℕ) (n : ℕ) → cutSize cut n ≤ n
 unfolding cutSize

@@ -91,10 +91,6 @@ part-part p n f m c h =
     let g : m ≤ n - f = omega arith in
     ap (λ (j : ℕ). take m (drop f (take j (drop p c)))) e ∙ ap (take m) (drop-take f (n - f) (drop p c)) ∙ take-take m (n - f) (drop f (drop p c)) g ∙ ap (take m) (drop-drop f p c)
 
-pub held-at : (p : ℕ) (c : List ℕ) → held (take 92 (drop p c)) ≡ not (eqb (numberAt 4 p c) 0)
-unfolding held ownerOf numberAt
-held-at p c = rw (take-take 4 92 (drop p c) (omega arith))
-
 -- ---- the first place that passes a test
 pub first-at : (test : List ℕ → Bool) (ls : List (List ℕ)) (i : ℕ) → ((k : ℕ) → k < i → test (getD ls k []) ≡ false) → i < length ls → test (getD ls i []) ≡ true
     → firstOf test ls ≡ some i

@@ -6,23 +6,18 @@ use Prim.Native.Nat.{ℕ, zero, suc, _+_, _*_, _-_, _^_, _≤_, _<_}
 use native.Mathlib.Nat.{mul-suc}
 use native.Mathlib.Omega.{arith}
 use lib.Dec.{ltb}
-use lib.IntN.{ℤ, pos, negsuc}
 use lib.ListN.{length, take, drop, length-append, length-take, length-drop, take-append-drop}
-use lib.Seq.{length-take-le}
-use mir.Syntax.{w32}
-use mir.Val.{SFits}
-use mir.ValLaws.{toZ-fits}
 use Rattle.octets.specs.Moves.{put}
 use Rattle.octets.specs.Numbers.{numberAt, digits}
 use Rattle.octets.specs.Strings.{Octets, order, join}
 use Rattle.octets.proofs.MoveLaws.{put-put}
-use Rattle.octets.proofs.NumberLaws.{number-bound, length-digits}
-use Rattle.octets.proofs.StringLaws.{octets-take, octets-drop}
+use Rattle.octets.proofs.NumberLaws.{length-digits}
 use Rattle.rules.specs.Requests.{entryOffset, entryCount, entryOpcode, entrySpecimen, allFrom, sumFrom, testsFrom, readsFrom}
 use Rattle.rules.specs.Testing.{resolve, orZero, resolves, position, piece, testPiece, readPiece, exceeds, decides, holds, every, anyOf, replyOf}
 use Rattle.requests.specs.Cursors.{entryAt, testEntryAt}
 use Rattle.requests.specs.declared.cursors.Entry.{Entry}
 use Rattle.requests.specs.declared.cursors.TestEntry.{TestEntry}
+use Rattle.requests.proofs.CursorLaws.{position-below, count-below}
 use Rattle.replies.specs.Pieces.{piecesFrom, resolveFrom, Entries}
 
 -- ---- the tests and reads of a request ask for the pieces of its table
@@ -170,23 +165,8 @@ module _ (p : ℕ) (q d : List ℕ) (x : Entry) (is : x ≡ entryAt p q (length 
   entry-reach = rw is
 
 -- An entry's position and length add up without wrapping.
-numberAt-bound : (n at : ℕ) (s : List ℕ) → Octets s → at + n ≤ length s → numberAt n at s < 256 ^ n
-unfolding numberAt
-numberAt-bound n at s o h =
-    let e : length (take n (drop at s)) ≡ n = length-take-le n (drop at s) (rw length-drop (omega arith)) in
-    rw e at (number-bound (take n (drop at s)) (octets-take n (drop at s) (octets-drop at s o)))
-
-position-bound : (z : ℤ) (size : ℕ) → SFits w32 z → position z size < 4294967296
-unfolding resolve orZero position
-position-bound (pos n) size f = let h : n < 2147483648 = f .sfits in omega arith
-position-bound (negsuc n) size f = omega arith
-
-pub reach-bound : (p : ℕ) (q : List ℕ) (size : ℕ) → Octets q → p + 8 ≤ length q → position (entryOffset p q) size + entryCount p q < 8589934592
-unfolding entryOffset entryCount
-reach-bound p q size o h =
-    let a = position-bound (entryOffset p q) size (toZ-fits w32 (numberAt 4 p q) (record { fits = numberAt-bound 4 p q o (omega arith) })) in
-    let b = numberAt-bound 4 (p + 4) q o (omega arith) in
-    omega arith
+pub reach-bound : (p : ℕ) (q : List ℕ) (size : ℕ) → Octets q → position (entryOffset p q) size + entryCount p q < 8589934592
+reach-bound p q size o = omega (arith, position-below p q size, count-below p q o)
 
 pub test-next : (p r : ℕ) (q : List ℕ) (x : TestEntry) → r ≡ p + 8 → x ≡ testEntryAt r q
     → (x .opcode ≡ entryOpcode p q) × (x .specimen ≡ entrySpecimen p q) × (x .next .at ≡ p + 12)

@@ -1,16 +1,16 @@
 -- What a cursor's methods read, as their code computes it. Assumes nothing.
 use mathlib.Core.Path.{_≡_, refl, ap, _∙_}
-use mathlib.Core.Bool.{true, false, true≢false}
+use mathlib.Core.Bool.{Bool, true, false, true≢false}
 use mathlib.Core.List.{List}
-use Prim.Native.Nat.{ℕ, _+_, _^_, _≤_, _<_}
+use Prim.Native.Nat.{ℕ, suc, _+_, _-_, _^_, _≤_, _<_}
 use native.Mathlib.Omega.{arith}
 use native.Mathlib.Nat.{not-suc-le-zero, lt-of-lt-of-le, pow-le-pow-right}
-use lib.Dec.{T}
+use lib.Dec.{T, ltb}
 use lib.IntN.{ℤ, pos, negsuc, natAbs}
 use lib.ListN.{length, take, drop, getD, length-take}
 use lib.Signed.{ltZ, nonNeg}
 use mir.Syntax.{w32, w64}
-use mir.Val.{toZ, ofZ, Fits, SFits}
+use mir.Val.{sel, bits, hbits, toZ, ofZ, Fits, SFits}
 use mir.ValLaws.{toZ-ofZ}
 use borrow.Author.Tests.{ltb-true}
 use Rattle.octets.specs.Numbers.{numberAt, signed}
@@ -131,3 +131,16 @@ specimen-below p q h = numberAt-below 2 (p + 10) q h
 pub count-below : (p : ℕ) (q : List ℕ) → Octets q → entryCount p q < 4294967296
 unfolding entryCount
 count-below p q h = numberAt-below 4 (p + 4) q h
+
+-- ---- how far an offset reaches
+signed-below : (u size : ℕ) → position (signed u) size < 2147483648
+unfolding position resolve orZero
+signed-below u size = go (ltb u (2 ^ hbits w32)) refl
+  where
+    go : (t : Bool) → ltb u (2 ^ hbits w32) ≡ t → orZero (resolve (sel t (pos u) (negsuc (2 ^ bits w32 - suc u))) size) < 2147483648
+    go true e = ltb-true u (2 ^ hbits w32) e
+    go false e = omega arith
+
+pub position-below : (p : ℕ) (q : List ℕ) (size : ℕ) → position (entryOffset p q) size < 2147483648
+unfolding entryOffset
+position-below p q size = signed-below (numberAt 4 p q) size

@@ -5,24 +5,18 @@ use mathlib.Core.List.{List, [], _∷_, map, append-nil}
 use Prim.Native.Nat.{ℕ, zero, suc, _+_, _-_, _^_, _≤_, _<_, min, max}
 use native.Mathlib.Omega.{arith}
 use native.Mathlib.Nat.{add-zero}
-use lib.Dec.{ltb}
-use lib.IntN.{pos, negsuc}
 use lib.ListN.{length, take, drop, replicate, length-take, length-drop, take-append-drop}
 use lib.Seq.{take-append-le, length-take-le}
-use mir.Syntax.{w32}
-use mir.Val.{sel, bits, hbits}
-use borrow.Author.Tests.{ltb-true}
 use Rattle.octets.specs.Numbers.{numberAt, signed}
 use Rattle.octets.specs.Strings.{Octets}
 use Rattle.octets.specs.Moves.{put}
-use Rattle.octets.proofs.NumberLaws.{number-bound}
-use Rattle.octets.proofs.StringLaws.{octets-take, octets-drop}
 use Rattle.rules.specs.Requests.{Write, entryOffset, entryCount, sumFrom, writesFrom}
 use Rattle.rules.specs.Testing.{resolve, orZero, resolves, position}
 use Rattle.rules.specs.Writing.{padTo, writeAt, grow, placed, writesResolve, writeAll, sizeAll}
 use Rattle.rules.proofs.WriteLaws.{clip, take-min}
 use Rattle.requests.specs.declared.cursors.Entry.{Entry}
 use Rattle.requests.specs.Cursors.{entryAt}
+use Rattle.requests.proofs.CursorLaws.{position-below, count-below}
 use Rattle.writes.specs.declared.sizes.Reached.{Reached}
 use Rattle.writes.specs.Tables.{Table, reachedBy}
 
@@ -53,25 +47,6 @@ pub write-far : (d : List ℕ) (at : ℕ) (bs : List ℕ) → length d ≤ at �
 unfolding writeAt
 write-far d at bs h = let k : length d - at ≡ 0 = omega arith in rw k
 
--- ---- the numbers of an entry
-signed-bound : (u size : ℕ) → position (signed u) size < 2147483648
-unfolding position resolve orZero
-signed-bound u size = go (ltb u (2 ^ hbits w32)) refl
-  where
-    go : (t : Bool) → ltb u (2 ^ hbits w32) ≡ t → orZero (resolve (sel t (pos u) (negsuc (2 ^ bits w32 - suc u))) size) < 2147483648
-    go true e = ltb-true u (2 ^ hbits w32) e
-    go false e = omega arith
-
-pub position-bound : (p : ℕ) (q : List ℕ) (size : ℕ) → position (entryOffset p q) size < 2147483648
-unfolding entryOffset
-position-bound p q size = signed-bound (numberAt 4 p q) size
-
-pub count-bound : (p : ℕ) (q : List ℕ) → p + 8 ≤ length q → Octets q → entryCount p q < 4294967296
-unfolding entryCount numberAt
-count-bound p q h o =
-    let l : length (take 4 (drop (p + 4) q)) ≡ 4 = length-take-le 4 (drop (p + 4) q) (rw length-drop (omega arith)) in
-    rw l at (number-bound (take 4 (drop (p + 4) q)) (octets-take 4 (drop (p + 4) q) (octets-drop (p + 4) q o)))
-
 -- ---- an entry taken off a table
 -- e is the entry at p of a table of v writes, w of which stand behind it; its offset is resolved on data of a size.
 pub record Taken (q : List ℕ) (p b v w size : ℕ) (e : Entry) : Type 0 where
@@ -98,7 +73,7 @@ module _ {q : List ℕ} {p b v w size : ℕ} {e : Entry} (K : Taken q p b v w si
   entry-table = rw (K .is) (record { few = omega (arith, K .one, K .table .few); rows = omega (arith, K .one, K .table .rows); bodies = omega (arith, bodies-are, K .table .bodies) })
 
   pub entry-bounds : Octets q → (e .position < 4294967296) × (e .count < 4294967296)
-  entry-bounds o = rw (K .is) (omega (arith, position-bound p q size), count-bound p q (omega (arith, K .one, K .table .rows)) o)
+  entry-bounds o = rw (K .is) (omega (arith, position-below p q size), count-below p q o)
 
   -- What is left behind the entry, and the size that its offsets are resolved on.
   abbrev pub left : List Write

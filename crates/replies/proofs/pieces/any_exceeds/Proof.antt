@@ -45,9 +45,8 @@ add-if1 c =
     let k = t .before .before in
     let a = k .before .before .args in
     let o : Octets (a .q .now) = λ j. omega (arith, k .shared-slice-known2 .given j) in
-    let h = entries-here (t .before .loop .inv .0) (t .loop-test .taken) in
     let e = entry-reach (t .before .loop .at) (a .q .now) (a .d .now) (c .before .entry .result) (c .before .entry .ensures) in
-    omega (arith, reach-bound (t .before .loop .at) (a .q .now) (length (a .d .now)) o h)
+    omega (arith, reach-bound (t .before .loop .at) (a .q .now) (length (a .d .now)) o)
 
 returns : tie.Need-returns Inv-loop μ-loop
 returns c = sym (by-entry (c .before .before) ∙ rw (lt-ltb _ _ (c .if1 .taken)))
