@@ -13,8 +13,7 @@ use Rattle.octets.specs.Strings.{Octets}
 use Rattle.format.specs.Container.{wellFormed, dataOf, sizeOf, extrasOf}
 use Rattle.format.specs.Parts.{Parts, partsOf, encode}
 use Rattle.format.specs.Known.{Known}
-use Rattle.format.proofs.WellFormed.{formed-facts, used-is, data-length}
-use Rattle.format.proofs.JudgedLaws.{data-read}
+use Rattle.format.proofs.WellFormed.{data-length}
 use Rattle.format.proofs.RoundTrip.{encode-parts}
 use Rattle.rules.specs.Requests.{Read, Request, read, readCount, readsFrom, requestOf}
 use Rattle.rules.specs.Testing.{exceeds, anyOf, replyOf}
@@ -25,45 +24,22 @@ use Rattle.requests.proofs.FormLaws.{read-facts}
 use Rattle.replies.specs.Pieces.{piecesFrom, resolveFrom, Entries}
 use Rattle.replies.proofs.PieceLaws.{read-pieces, read-resolve}
 use Rattle.container.specs.Forms.{ReadRequest}
+use Rattle.container.proofs.KnownLaws.{lent, lent-is}
+use Rattle.container.proofs.RefusalLaws.{Silent, silent-refused}
 
--- An outcome other than 0, 5 and 8: no node id, no count, no reply.
-answer-plain : (m : ℕ) (p : Parts) (q : Option Request) → eqb m 5 ≡ false → replies m ≡ false → answerTo m p q ≡ answerOf m noNode 0
-unfolding answerTo
-answer-plain m p none h k = refl
-answer-plain m p (some r) h k = rw (h, k)
-
-pub refused : (c q r : List ℕ) (x : Answer) (m : ℕ) → outcome c q (length r) ≡ m → eqb m 5 ≡ false → replies m ≡ false → x ≡ answerOf m noNode 0
-    → (x ≡ answered c q r) × (r ≡ replyAfter c q r)
-unfolding answered replyAfter
-refused c q r x m e h k a = (rw (e, a) (sym (answer-plain m (partsOf c) (requestOf q) h k)), rw (e, k))
-
--- The part of a container that the reader lends as the data.
-abbrev pub lent : List ℕ → ℕ → List ℕ
-lent c s = take (468 + s - 468) (drop 468 c)
+pub refused : (c q r : List ℕ) (x : Answer) (m : ℕ) → outcome c q (length r) ≡ m → Silent m → x ≡ answerOf m noNode 0 → (x ≡ answered c q r) × (r ≡ replyAfter c q r)
+refused c q r x m e h a = let f = silent-refused m c q r h e in (a ∙ f .answer, f .reply)
 
 -- The reply to n reads.
 abbrev pub reply : List ℕ → List ℕ → ℕ → ℕ → List ℕ
 reply c q s n = replyOf (piecesFrom 8 n 4 q (lent c s))
 
 module _ (c q : List ℕ) (s e n : ℕ) (known : Known c s e) (asked : ReadRequest q n) where
-  pub read-room : (468 + s ≤ length c) × (length c ≤ 65536)
-  read-room =
-      let f = formed-facts c (known .formed) in
-      let u = used-is (sizeOf c) (extrasOf c) in
-      let k = known .size-is in
-      (omega (arith, f .fields .fits), f .most)
-
   pub read-entries : Entries 8 n 4 q
   read-entries =
       let f = read-facts q (asked .ok) in
       let k = asked .count in
       record { wide = omega arith; narrow = omega arith; few = omega arith; inside = omega arith }
-
-  lent-is : lent c s ≡ dataOf c
-  lent-is = data-read c (468 + s - 468) (omega (arith, known .size-is))
-
-  pub lent-small : length (lent c s) ≤ 65536
-  lent-small = rw (lent-is, data-length c (known .formed)) (omega (arith, read-room, known .size-is))
 
   -- rows 4, 6 and 7
   read-outcome : (m : ℕ) → outcome c q m
@@ -71,29 +47,29 @@ module _ (c q : List ℕ) (s e n : ℕ) (known : Known c s e) (asked : ReadReque
   unfolding partsOf requestRows rows roomRows resolved replyTo
   read-outcome m =
       outcome-formed c q m (known .formed)
-      ∙ rw (asked .is, lent-is, asked .count, known .size-is, data-length c (known .formed), read-resolve (readCount q) 4 q (sizeOf c), read-pieces (readCount q) 4 q (dataOf c))
+      ∙ rw (asked .is, lent-is known, asked .count, known .size-is, data-length c (known .formed), read-resolve (readCount q) 4 q (sizeOf c), read-pieces (readCount q) 4 q (dataOf c))
 
   module _ (r : List ℕ) (x : Answer) where
     pub read-unresolved : resolveFrom 8 n 4 q s ≡ false → x ≡ answerOf 4 noNode 0 → (x ≡ answered c q r) × (r ≡ replyAfter c q r)
     unfolding lowest replies
-    read-unresolved h a = refused c q r x 4 (read-outcome (length r) ∙ rw h) refl refl a
+    read-unresolved h a = refused c q r x 4 (read-outcome (length r) ∙ rw h) (record { not-done = refl; no-node = refl; no-reply = refl }) a
 
     pub read-exceeds : resolveFrom 8 n 4 q s ≡ true → anyOf (exceeds (lent c s)) (readsFrom n 4 q) ≡ true → x ≡ answerOf 6 noNode 0
         → (x ≡ answered c q r) × (r ≡ replyAfter c q r)
     unfolding lowest replies
-    read-exceeds h k a = refused c q r x 6 (read-outcome (length r) ∙ rw (h, k)) refl refl a
+    read-exceeds h k a = refused c q r x 6 (read-outcome (length r) ∙ rw (h, k)) (record { not-done = refl; no-node = refl; no-reply = refl }) a
 
     -- past the tests of rows 4 and 6, with the reply's length m
     module _ (m : ℕ) (is : m ≡ length (reply c q s n)) (h : resolveFrom 8 n 4 q s ≡ true) (k : anyOf (exceeds (lent c s)) (readsFrom n 4 q) ≡ false) where
       pub read-no-space : length r < m → x ≡ answerOf 7 noNode 0 → (x ≡ answered c q r) × (r ≡ replyAfter c q r)
       unfolding lowest replies
-      read-no-space l a = refused c q r x 7 (read-outcome (length r) ∙ rw (h, k, ← is, lt-ltb _ _ l)) refl refl a
+      read-no-space l a = refused c q r x 7 (read-outcome (length r) ∙ rw (h, k, ← is, lt-ltb _ _ l)) (record { not-done = refl; no-node = refl; no-reply = refl }) a
 
       pub read-done : (r' : List ℕ) → m ≤ length r → x ≡ answerOf 0 noNode m → r' ≡ put 0 (reply c q s n) r → (x ≡ answered c q r) × (r' ≡ replyAfter c q r)
       unfolding lowest replies answered replyAfter answerTo replyBytes counted replyTo partsOf
       read-done r' l a b =
           let o : outcome c q (length r) ≡ 0 = read-outcome (length r) ∙ rw (h, k, ← is, le-ltb _ _ l) in
-          let p : piecesFrom 8 n 4 q (lent c s) ≡ piecesFrom 8 (readCount q) 4 q (dataOf c) = rw (lent-is, asked .count) in
+          let p : piecesFrom 8 n 4 q (lent c s) ≡ piecesFrom 8 (readCount q) 4 q (dataOf c) = rw (lent-is known, asked .count) in
           (rw (a, is, o, asked .is, p, read-pieces (readCount q) 4 q (dataOf c)), rw (b, o, asked .is, p, read-pieces (readCount q) 4 q (dataOf c)))
 
 -- A read, done or refused, leaves the container as it was.

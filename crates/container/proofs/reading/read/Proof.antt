@@ -1,27 +1,28 @@
 -- Each way out has met the tests of the rows above its own. Assumes nothing.
+use native.Mathlib.Omega.{arith}
 use mathlib.Core.Path.{_≡_, sym, _∙_}
 use mathlib.Core.Bool.{true, false}
 use Prim.Native.Nat.{_+_, _≤_}
-use native.Mathlib.Omega.{arith}
 use lib.ListN.{length}
 use borrow.Author.Tests.{not-true, not-false}
 use Rattle.rules.specs.Requests.{readsFrom}
 use Rattle.rules.specs.Testing.{exceeds, anyOf}
 use Rattle.replies.specs.Pieces.{resolveFrom, Entries}
-use Rattle.container.proofs.ReadLaws.{lent, read-room, read-entries, lent-small, read-unresolved, read-exceeds, read-no-space, read-done}
+use Rattle.container.proofs.KnownLaws.{lent, known-room, lent-small}
+use Rattle.container.proofs.ReadLaws.{read-entries, read-unresolved, read-exceeds, read-no-space, read-done}
 use borrow.Author.Needs.{needs}
 use Rattle.container.proofs.reading.read.Statement.{statement}
 use Rattle.container.proofs.reading.read.Tie as tie
 
 -- what is known from the start, and past the first and the second test
 room : (s : tie.Start) → (468 + s .args .size ≤ length (s .args .c .now)) × (length (s .args .c .now) ≤ 65536)
-room s = read-room _ _ _ _ _ (s .pre .0) (s .pre .1)
+room s = let k = known-room (s .pre .0) in (omega arith, k .1)
 
 entries : (s : tie.Start) → Entries 8 (s .args .n) 4 (s .args .q .now)
 entries s = read-entries _ _ _ _ _ (s .pre .0) (s .pre .1)
 
 small : (s : tie.Start) → length (lent (s .args .c .now) (s .args .size)) ≤ 65536
-small s = lent-small _ _ _ _ _ (s .pre .0) (s .pre .1)
+small s = lent-small (s .pre .0)
 
 unresolved : (c : tie.Then1) → let a = c .before .before .before .before .before .before .args in resolveFrom 8 (a .n) 4 (a .q .now) (a .size) ≡ false
 unresolved c = sym (c .before .all-resolve .ensures) ∙ not-true _ (c .if1 .taken)
