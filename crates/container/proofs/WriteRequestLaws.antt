@@ -83,8 +83,8 @@ length-rewritten : (ws : List Write) (cut : Option ℕ) (d : List ℕ) → lengt
 unfolding rewritten finalSize
 length-rewritten ws cut d = length-cutTo cut _ ∙ rw length-writeAll
 
--- The data, and the buffer's used part, after a test-and-write.
-abbrev pub finalOf : List ℕ → ℕ → ℕ
+-- The size of the data, and the used length, after a test-and-write.
+abbrev finalOf : List ℕ → ℕ → ℕ
 finalOf q size = finalSize (writesFrom (writeCount q) (writesAt q) (newDataAt q) q) (cutOf (cutFlag q) (newLength q)) size
 
 used-after : (c q : List ℕ) → used (after (partsOf c) (testWriteOf q)) ≡ 472 + finalOf q (length (dataOf c)) + 92 * extrasOf c
@@ -93,6 +93,7 @@ used-after c q =
     let k : 4 + extrasOf c - 4 ≡ extrasOf c = omega arith in
     rw (length-leases c, k, length-rewritten) (used-is (finalOf q (length (dataOf c))) (extrasOf c))
 
+-- The five rows that it can meet.
 rows-are : (p : Parts) (q : List ℕ) (n : ℕ) → rows p (testWriteOf q) n ++ roomRows p (testWriteOf q)
     ≡ row 4 (not (resolved p (testWriteOf q)))
     ∷ (row 5 (not (same (take 32 (drop 8 q)) (p .enabler)))
@@ -138,8 +139,11 @@ module _ {c q d : List ℕ} {size extras : ℕ} {t : Table} {x : Reached} {n f :
   used-is-now : used (after (partsOf c) (testWriteOf q)) ≡ 472 + f + 92 * extras
   used-is-now = used-after c q ∙ rw (final-is, M .known .extras-is)
 
-  pub final-bound : f ≤ size + 2147483648 + length q
-  final-bound = omega (arith, M .final, cut-bound (writes.cutBy (t .cut) (t .new)) (x .size), ap (λ (y : Reached). y .size) (M .reached), reach-bound (t .writes) (40 + 12 * t .tests) (t .bodies) q size)
+  pub final-bound : (f ≤ x .size) × (x .size ≤ size + 2147483648 + length q)
+  final-bound = (
+    omega (arith, M .final, cut-bound (writes.cutBy (t .cut) (t .new)) (x .size)),
+    omega (arith, ap (λ (y : Reached). y .size) (M .reached), reach-bound (t .writes) (40 + 12 * t .tests) (t .bodies) q size),
+  )
 
   pub judged : (k space : ℕ) → k ≡ firstRow c d q t (x .resolves) n space (472 + f + 92 * extras) → record { number = k; reply = n; size = f } ≡ verdictOf (partsOf c) q space
   unfolding verdictOf firstRow partsOf

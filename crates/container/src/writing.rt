@@ -56,13 +56,15 @@ fn first_row(
     0
 }
 
+// The room is judged on the final size: the size on the way to the cut is never materialised.
 fn judge(c: &[u8], size: usize, extras: usize, q: &[u8], t: Table, space: usize) -> Verdict
     requires { ⌜ Known (now c) size extras × WriteRequest (now q) t ⌝ }
     ensures { λ r. ⌜ r ≡ verdictOf (partsOf (now (c .entry))) (now (q .entry)) space ⌝ }
 {
     let d = &c[468..468 + size];
     let reached = writes::sizes::reach(q, 40 + 12 * t.tests, t.writes, t.bodies, size);
-    let after = writes::sizes::cut_size(reached.size, t.cut, t.new);
+    let on_the_way = reached.size;
+    let after = writes::sizes::cut_size(on_the_way, t.cut, t.new);
     let reply = replies::pieces::reply_length(d, q, 40, t.tests, 12);
     let need = 472 + after + 92 * extras;
     Verdict {
@@ -97,6 +99,7 @@ pub(crate) fn test_and_write(
 {
     let verdict = judge(c, size, extras, q, t, r.len());
     let number = verdict.number;
+    let after = verdict.size;
     if number == 5 {
         return enabler_differs(c);
     }
@@ -115,7 +118,7 @@ pub(crate) fn test_and_write(
         40 + 12 * t.tests,
         t.writes,
         t.bodies,
-        verdict.size,
+        after,
     );
     answer(0, verdict.reply)
 }
