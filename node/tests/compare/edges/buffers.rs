@@ -1,0 +1,71 @@
+//! The buffer's length, the size and the count of extras.
+
+use super::{fresh, run_case, ENABLER};
+use crate::checker::Checker;
+use crate::rng::Rng;
+use crate::{containers, requests};
+
+pub fn run(rng: &mut Rng, checker: &mut Checker) {
+    buffer_lengths(rng, checker);
+    size_fields(checker);
+    extra_counts(rng, checker);
+}
+
+/// 472 and 65,536, and those beside them, for create and each kind.
+fn buffer_lengths(rng: &mut Rng, checker: &mut Checker) {
+    for length in [
+        0, 1, 32, 84, 100, 468, 471, 472, 473, 563, 564, 565, 65_535, 65_536, 65_537, 70_000,
+    ] {
+        checker.create(&mut vec![0; length], &[7; 20], &ENABLER);
+        checker.create(&mut vec![0xFF; length], &[7; 20], &ENABLER);
+        let mut bytes = fresh(length.max(472)).to_bytes();
+        bytes.truncate(length);
+        for _ in 0..40 {
+            let container = fresh(length.clamp(472, 65_536));
+            let request = requests::any(rng, &container);
+            run_case(checker, &bytes, requests::encode(&request), 600);
+        }
+        run_case(checker, &bytes, Vec::new(), 0);
+        checker.share_in_container(&bytes);
+    }
+}
+
+/// Size fields near each power of two and where 468+s or 472+s wrap, with the offset field that
+/// agrees as a 64-bit sum.
+fn size_fields(checker: &mut Checker) {
+    let near = |edge: u64| (0..=4).map(move |step| edge.wrapping_add(step).wrapping_sub(2));
+    let powers = [2, 128, 528, 65_064, 65_536, 1 << 31, 1 << 32, 1 << 63];
+    let wraps = [0, 468, 472, 564].map(u64::wrapping_neg);
+    for length in [472, 600, 1000, 65_536] {
+        for size in powers.into_iter().chain(wraps).flat_map(near) {
+            for shift in [0, 1, u64::MAX] {
+                let mut bytes = fresh(length).to_bytes();
+                let offset = size.wrapping_add(468).wrapping_add(shift);
+                bytes[84..92].copy_from_slice(&size.to_be_bytes());
+                bytes[92..100].copy_from_slice(&offset.to_be_bytes());
+                run_case(checker, &bytes, vec![5, 0, 0, 0], 0);
+                checker.share_in_container(&bytes);
+            }
+        }
+    }
+}
+
+/// 60 and 61 extras and counts up to 2^32-1, with the room for them and one byte less.
+fn extra_counts(rng: &mut Rng, checker: &mut Checker) {
+    for extras in [0, 1, 2, 59, 60, 61, 62, 255, 256, 65_536, 1 << 31, u32::MAX] {
+        for room in [0, 1, 92 * 62, 92 * 62 - 1] {
+            for there in [0, 1, 60] {
+                let container = containers::with(rng, 5, there, room, 0);
+                let mut bytes = container.to_bytes();
+                bytes[473..477].copy_from_slice(&extras.to_be_bytes());
+                run_case(checker, &bytes, vec![5, 0, 0, 0], 0);
+            }
+        }
+        // Records for all of them, where they exceed 60 by a few only.
+        if (61..=62).contains(&extras) {
+            let container = containers::with(rng, 5, extras as usize, 0, 0);
+            let number = run_case(checker, &container.to_bytes(), vec![5, 0, 0, 0], 0);
+            assert_eq!(number, 2);
+        }
+    }
+}

@@ -1,0 +1,144 @@
+//! How often each outcome, and each pair of outcomes, was met.
+
+use std::collections::BTreeMap;
+
+/// What was called; for apply, by the request's first byte.
+#[derive(Clone, Copy, Debug, PartialEq, Eq, PartialOrd, Ord)]
+pub enum Call {
+    Create,
+    TestAndWrite,
+    Add,
+    Renew,
+    Cancel,
+    Read,
+    UnknownKind,
+    BareShare,
+    ShareInContainer,
+}
+
+impl Call {
+    pub const ALL: [Call; 9] = [
+        Call::Create,
+        Call::TestAndWrite,
+        Call::Add,
+        Call::Renew,
+        Call::Cancel,
+        Call::Read,
+        Call::UnknownKind,
+        Call::BareShare,
+        Call::ShareInContainer,
+    ];
+
+    /// The call that applies a request.
+    pub fn of_request(request: &[u8]) -> Call {
+        match request.first() {
+            Some(1) => Call::TestAndWrite,
+            Some(2) => Call::Add,
+            Some(3) => Call::Renew,
+            Some(4) => Call::Cancel,
+            Some(5) => Call::Read,
+            _ => Call::UnknownKind,
+        }
+    }
+
+    /// The outcomes that it can have, by the last column of the outcome table and the rules for
+    /// shares.
+    pub fn outcomes(self) -> &'static [u32] {
+        match self {
+            Call::Create => &[0, 1, 3, 12],
+            Call::TestAndWrite => &[0, 1, 2, 3, 4, 5, 7, 8, 11],
+            Call::Add => &[0, 1, 2, 3, 10, 11],
+            Call::Renew | Call::Cancel => &[0, 1, 2, 3, 9],
+            Call::Read => &[0, 1, 2, 3, 4, 6, 7],
+            Call::UnknownKind => &[1, 2, 3],
+            Call::BareShare => &[0, 21, 22, 23, 24, 25, 26, 27, 28, 29],
+            Call::ShareInContainer => &[0, 1, 2, 21, 22, 23, 24, 25, 26, 27, 28, 29],
+        }
+    }
+
+    /// The pairs of refusals that can apply together: for one call, any two of them.
+    pub fn pairs(self) -> Vec<(u32, u32)> {
+        let refusals = self
+            .outcomes()
+            .iter()
+            .copied()
+            .filter(|number| *number != 0);
+        refusals
+            .clone()
+            .flat_map(|low| {
+                refusals
+                    .clone()
+                    .filter(move |high| low < *high)
+                    .map(move |high| (low, high))
+            })
+            .collect()
+    }
+}
+
+#[derive(Default)]
+pub struct Tally {
+    /// All comparisons.
+    pub cases: u64,
+    outcomes: BTreeMap<(Call, u32), u64>,
+    pairs: BTreeMap<(Call, u32, u32), u64>,
+}
+
+impl Tally {
+    pub fn outcome(&mut self, call: Call, number: u32) {
+        self.cases += 1;
+        *self.outcomes.entry((call, number)).or_default() += 1;
+    }
+
+    pub fn pair(&mut self, call: Call, (low, high): (u32, u32)) {
+        *self.pairs.entry((call, low, high)).or_default() += 1;
+    }
+
+    pub fn print(&self) {
+        println!("\nhow often each outcome was met:");
+        for call in Call::ALL {
+            let met = self.outcomes.iter().filter(|((of, _), _)| *of == call);
+            let met: Vec<String> = met
+                .map(|((_, number), count)| format!("{number}: {count}"))
+                .collect();
+            println!("  {:>16}  {}", format!("{call:?}"), met.join(", "));
+        }
+        println!("\npairs of outcomes met together, each alone and both:");
+        for call in Call::ALL {
+            let met: Vec<u64> = self
+                .pairs
+                .iter()
+                .filter(|((of, _, _), _)| *of == call)
+                .map(|(_, count)| *count)
+                .collect();
+            println!(
+                "  {:>16}  {} of {} pairs, each at least {} times",
+                format!("{call:?}"),
+                met.len(),
+                call.pairs().len(),
+                met.iter().min().unwrap_or(&0)
+            );
+        }
+        println!();
+    }
+
+    /// Every possible outcome and pair was met, and no other outcome.
+    pub fn demand_all(&self) {
+        for call in Call::ALL {
+            for number in call.outcomes() {
+                let met = self.outcomes.contains_key(&(call, *number));
+                assert!(met, "{call:?}: outcome {number} was never met");
+            }
+            for (low, high) in call.pairs() {
+                let met = self.pairs.contains_key(&(call, low, high));
+                assert!(
+                    met,
+                    "{call:?}: outcomes {low} and {high} were never met together"
+                );
+            }
+        }
+        for (call, number) in self.outcomes.keys() {
+            let possible = call.outcomes().contains(number);
+            assert!(possible, "{call:?}: outcome {number} is not possible");
+        }
+    }
+}
