@@ -5,17 +5,14 @@ use mathlib.Core.List.{List, [], _∷_, _++_}
 use mathlib.Core.Option.{Option, none, some}
 use Prim.Native.Nat.{ℕ, zero, suc, _+_, _≤_, _<_}
 use lib.ListN.{length, getD}
-use lib.Dec.{eqb, leb}
-use native.Mathlib.Omega.{arith}
-use borrow.Author.Tests.{eqb-true, leb-true}
-use Rattle.format.specs.Container.{least, limit, lengthAllowed, wellFormed, dataOf, leasesOf}
-use Rattle.format.proofs.WellFormed.{both}
+use lib.Dec.{eqb}
+use Rattle.format.specs.Container.{wellFormed, dataOf, leasesOf}
 use Rattle.format.specs.Parts.{Parts, Valid, encode, fresh}
-use Rattle.format.proofs.RoundTrip.{encode-formed, leases-encode, data-encode, fresh-valid}
+use Rattle.format.proofs.RoundTrip.{encode-formed, leases-encode, data-encode}
 use Rattle.rules.specs.Requests.{Request, testWrite, add, renew, cancel, read, requestOf}
 use Rattle.rules.specs.Writing.{placed, rewritten}
-use Rattle.rules.specs.Outcomes.{withBytes, withLeases, after, afterOf, row, createOutcome, createdContainer}
-use Rattle.rules.proofs.Kept.{clear, not-false}
+use Rattle.rules.specs.Outcomes.{withBytes, withLeases, after, afterOf, createOutcome, createdContainer}
+use Rattle.rules.proofs.Demand1.{created, created-valid}
 use Rattle.histories.specs.Runs.{Call, Heard, hears, leaves, ruleOutcome, ruleHears, ruleLeaves, answers, final, isLease, isData, only, beside, noRoom, Never, Woven}
 use Rattle.histories.specs.Accepted.{Change, sizeAfter, value, lastSays, byteAfter, changesOf, took, accepted}
 use Rattle.histories.specs.Claims.{Alike, ByRules, Told, Demand3}
@@ -107,20 +104,6 @@ data-told h p v e =
 
 pub demand-3-parts : (p : Parts) → Valid p → p .bytes ≡ [] → Demand3 (encode p) p
 demand-3-parts p v e = record { woven = λ h k. woven-alike h k p v; rules = λ h. by-rules h p v; told = λ h. data-told h p v e }
-
--- create with outcome 0 makes the fresh container
-pub created : (b node enabler : List ℕ) → createOutcome b node enabler ≡ 0 → createdContainer b node enabler ≡ encode (fresh (length b) node enabler)
-unfolding createdContainer
-created b node enabler e = rw e
-
-pub created-valid : (b node enabler : List ℕ) → createOutcome b node enabler ≡ 0 → Valid (fresh (length b) node enabler)
-unfolding createOutcome lengthAllowed
-created-valid b node enabler e =
-    let x = clear 1 _ _ (omega arith) e in
-    let y = clear 3 _ _ (omega arith) (x .1) in
-    let a = both (leb least (length b)) (leb (length b) limit) (not-false _ (x .0)) in
-    let l = both (eqb (length node) 20) (eqb (length enabler) 32) (not-false _ (y .0)) in
-    fresh-valid (length b) node enabler (leb-true _ _ (a .0)) (leb-true _ _ (a .1)) (eqb-true _ _ (l .0)) (eqb-true _ _ (l .1))
 
 -- DEMAND 3: of every container that create has just made with outcome 0, at any allowed buffer length
 pub demand-3 : (b node enabler : List ℕ) → createOutcome b node enabler ≡ 0 → Demand3 (createdContainer b node enabler) (fresh (length b) node enabler)

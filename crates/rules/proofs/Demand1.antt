@@ -9,17 +9,19 @@ use native.Mathlib.Omega.{arith}
 use lib.ListN.{length, take, drop, length-append, length-drop}
 use lib.Seq.{drop-at}
 use lib.Dec.{eqb, leb, ltb}
-use borrow.Author.Tests.{eqb-true, eqb-false, ltb-false, ne-eqb}
+use borrow.Author.Tests.{eqb-true, eqb-false, leb-true, ltb-false, ne-eqb}
 use Rattle.octets.specs.Moves.{put}
 use Rattle.octets.proofs.MoveLaws.{put-length}
-use Rattle.format.specs.Container.{lengthAllowed, wellFormed}
-use Rattle.format.specs.Parts.{Parts, Valid, Each, partsOf, encode}
-use Rattle.format.proofs.RoundTrip.{parts-valid, encode-formed, length-encode}
+use Rattle.octets.specs.Strings.{same}
+use Rattle.format.specs.Container.{magic, least, limit, lengthAllowed, wellFormed}
+use Rattle.format.specs.Parts.{Parts, Valid, Each, partsOf, encode, fresh}
+use Rattle.format.proofs.WellFormed.{both}
+use Rattle.format.proofs.RoundTrip.{parts-valid, encode-formed, length-encode, fresh-valid}
 use Rattle.rules.specs.Requests.{Request, testWrite, add, renew, cancel, read, requestOf}
 use Rattle.rules.specs.Testing.{every, holds, anyOf, exceeds}
-use Rattle.rules.specs.Outcomes.{withBytes, withLeases, after, afterOf, Row, row, lowest, rows, roomRows, requestRows, resolved, replyTo, replyBytes, replies, counted, outcome, answerTo, answered, containerAfter, replyAfter}
-use Rattle.rules.specs.Claims.{Demand1}
-use Rattle.rules.proofs.Kept.{clear, Proper, after-valid}
+use Rattle.rules.specs.Outcomes.{withBytes, withLeases, after, afterOf, Row, row, lowest, rows, roomRows, requestRows, resolved, replyTo, replyBytes, replies, counted, outcome, answerTo, answered, containerAfter, replyAfter, createOutcome, createAnswer, createdContainer}
+use Rattle.rules.specs.Claims.{Demand1, Demand1Create}
+use Rattle.rules.proofs.Kept.{clear, not-false, Proper, after-valid}
 use Rattle.rules.proofs.RequestLaws.{ProperOption, request-proper}
 use Rattle.rules.proofs.OutcomeLaws.{formed-length, outcome-formed, answer-number}
 
@@ -193,4 +195,51 @@ module _ (c q r : List ℕ) where
     container-length = container-length;
     reply-length = reply-length;
     stays-formed = stays-formed;
+  }
+
+-- ---- create
+pub created-valid : (c node enabler : List ℕ) → createOutcome c node enabler ≡ 0 → Valid (fresh (length c) node enabler)
+unfolding createOutcome lengthAllowed
+created-valid c node enabler e =
+    let x = clear 1 _ _ (omega arith) e in
+    let y = clear 3 _ _ (omega arith) (x .1) in
+    let a = both (leb least (length c)) (leb (length c) limit) (not-false _ (x .0)) in
+    let l = both (eqb (length node) 20) (eqb (length enabler) 32) (not-false _ (y .0)) in
+    fresh-valid (length c) node enabler (leb-true _ _ (a .0)) (leb-true _ _ (a .1)) (eqb-true _ _ (l .0)) (eqb-true _ _ (l .1))
+
+pub created : (c node enabler : List ℕ) → createOutcome c node enabler ≡ 0 → createdContainer c node enabler ≡ encode (fresh (length c) node enabler)
+unfolding createdContainer
+created c node enabler e = rw e
+
+module _ (c node enabler : List ℕ) where
+  not-created : (createOutcome c node enabler ≡ 0 → ⊥) → createdContainer c node enabler ≡ c
+  unfolding createdContainer
+  not-created e = rw (ne-eqb (createOutcome c node enabler) 0 e)
+
+  created-number : createOutcome c node enabler ≤ 12
+  unfolding createOutcome lowest
+  created-number = go (not (lengthAllowed c)) (not (eqb (length node) 20 && eqb (length enabler) 32)) (same (take 32 c) magic)
+    where
+      go : (a b d : Bool) → cond a 1 (cond b 3 (cond d 12 0)) ≤ 12
+      go true b d = omega arith
+      go false true d = omega arith
+      go false false true = omega arith
+      go false false false = omega arith
+
+  created-length : length (createdContainer c node enabler) ≡ length c
+  unfolding fresh
+  created-length = go (eqb (createOutcome c node enabler) 0) refl
+    where
+      go : (b : Bool) → eqb (createOutcome c node enabler) 0 ≡ b → length (createdContainer c node enabler) ≡ length c
+      go true e = let z = eqb-true _ _ e in ap length (created c node enabler z) ∙ length-encode _ (created-valid c node enabler z)
+      go false e = ap length (not-created (eqb-false _ _ e))
+
+  -- DEMAND 1 of create
+  pub demand-1-create : Demand1Create c node enabler
+  unfolding createAnswer
+  demand-1-create = record {
+    number = created-number;
+    refused = not-created;
+    container-length = created-length;
+    made-formed = λ e. rw (created c node enabler e) (encode-formed _ (created-valid c node enabler e));
   }

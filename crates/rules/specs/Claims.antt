@@ -12,7 +12,7 @@ use Rattle.format.specs.Parts.{Parts, Each, used, partsOf}
 use Rattle.rules.specs.Requests.{Test, Write, testWrite, requestOf}
 use Rattle.rules.specs.Testing.{testPiece, holds, replyOf}
 use Rattle.rules.specs.Writing.{rewritten}
-use Rattle.rules.specs.Outcomes.{withBytes, replies, answered, containerAfter, replyAfter}
+use Rattle.rules.specs.Outcomes.{withBytes, answered, containerAfter, replyAfter, createAnswer, createdContainer}
 
 -- Demand 1, of any bytes as container, request and reply space.
 pub record Demand1 (c q r : List ℕ) : Type 0 where
@@ -29,6 +29,13 @@ pub record Demand1 (c q r : List ℕ) : Type 0 where
   pub reply-length : length (replyAfter c q r) ≡ length r
   -- a well-formed container stays well formed
   pub stays-formed : wellFormed c ≡ true → wellFormed (containerAfter c q r) ≡ true
+
+-- Demand 1 of create, on any buffer and with any arguments.
+pub record Demand1Create (c node enabler : List ℕ) : Type 0 where
+  pub number : createAnswer c node enabler .number ≤ 12
+  pub refused : (createAnswer c node enabler .number ≡ 0 → ⊥) → createdContainer c node enabler ≡ c
+  pub container-length : length (createdContainer c node enabler) ≡ length c
+  pub made-formed : createAnswer c node enabler .number ≡ 0 → wellFormed (createdContainer c node enabler) ≡ true
 
 -- An offset that is not negative.
 abbrev pub NotNegative : ℤ → Type 0

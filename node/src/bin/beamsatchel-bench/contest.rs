@@ -7,10 +7,15 @@ const SAMPLES: usize = 401;
 const SAMPLE: Duration = Duration::from_micros(150);
 const WARM_UP: u32 = 200;
 
-/// Medians in nanoseconds per call.
+/// Medians over all samples.
 pub struct Times {
+    /// Nanoseconds per call.
     pub library: f64,
+    /// Nanoseconds per call.
     pub rust: f64,
+    /// Library over Rust, each taken of two samples that followed each other, so that what slows
+    /// the machine for a while slows both.
+    pub ratio: f64,
 }
 
 /// Times two sides against each other. Both are called equally often.
@@ -30,7 +35,12 @@ pub fn contest(library: &mut dyn FnMut(), rust: &mut dyn FnMut()) -> Times {
             of_library.push(time(library, calls));
         }
     }
+    let ratios = of_library
+        .iter()
+        .zip(&of_rust)
+        .map(|(library, rust)| library / rust);
     Times {
+        ratio: median(ratios.collect()),
         library: median(of_library),
         rust: median(of_rust),
     }

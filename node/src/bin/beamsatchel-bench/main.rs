@@ -4,32 +4,24 @@
 mod contest;
 mod work;
 
+use beamsatchel_node::{ffi, model::fast};
 use contest::{contest, Times};
+use std::hint::black_box;
 use work::{Player, Slot};
-
-/// A workload's name, its slot and the requests that are sent in turn.
-type Work = (&'static str, Slot, fn(&Slot) -> Vec<Vec<u8>>);
 
 fn main() {
     println!("60 KiB containers with six leases; medians, ns per call");
-    let slot = Slot::new(60 * 1024, 56 * 1024);
-    let works: [Work; 6] = [
-        ("write 4 KiB at random offsets", slot, |slot| {
-            slot.writes(4096)
-        }),
-        ("write 4 KiB past the end, or cut it", slot, |slot| {
-            slot.growth(2048)
-        }),
-        ("read 4 KiB at random offsets", slot, |slot| {
-            slot.reads(4096)
-        }),
-        ("renew the last of six leases", slot, |slot| slot.renewals()),
-        ("add a lease, or cancel it", slot, |slot| slot.lease_lives()),
-        ("a false test of 4 KiB", slot, |slot| slot.false_tests(4096)),
-    ];
     head();
-    for (name, slot, requests) in works {
-        row(name, apply(&slot, &requests(&slot)));
+    let slot = Slot::new(60 * 1024, 56 * 1024);
+    for (name, requests) in [
+        ("write 4 KiB at random offsets", slot.writes(4096)),
+        ("write 4 KiB past the end, or cut it", slot.growth(2048)),
+        ("read 4 KiB at random offsets", slot.reads(4096)),
+        ("renew the last of six leases", slot.renewals()),
+        ("add a lease, or cancel it", slot.lease_lives()),
+        ("a false test of 4 KiB", slot.false_tests(4096)),
+    ] {
+        row(name, apply(&slot, &requests));
     }
     row("check a bare share of 2,043 bytes", check_bare());
     row("check a share in a 60 KiB container", check_in_container());
@@ -39,10 +31,13 @@ fn main() {
     for kibibytes in [2, 8, 32, 64] {
         let length = kibibytes * 1024;
         let slot = Slot::new(length, (length - 472 - 2 * 92) / 2);
-        let named = |work: &str| format!("{work}, {kibibytes} KiB");
-        row(&named("write 512 bytes"), apply(&slot, &slot.writes(512)));
-        row(&named("read 512 bytes"), apply(&slot, &slot.reads(512)));
-        row(&named("renew a lease"), apply(&slot, &slot.renewals()));
+        for (name, requests) in [
+            ("write 512 bytes", slot.writes(512)),
+            ("read 512 bytes", slot.reads(512)),
+            ("renew a lease", slot.renewals()),
+        ] {
+            row(&format!("{name}, {kibibytes} KiB"), apply(&slot, &requests));
+        }
     }
 }
 
@@ -54,11 +49,12 @@ fn head() {
 }
 
 fn row(name: &str, times: Times) {
-    let Times { library, rust } = times;
-    println!(
-        "{name:<40} {library:>9.0} {rust:>11.0} {:>6.2}",
-        library / rust
-    );
+    let Times {
+        library,
+        rust,
+        ratio,
+    } = times;
+    println!("{name:<40} {library:>9.0} {rust:>11.0} {ratio:>6.2}");
 }
 
 /// The requests in turn, each side on a container of its own; both end with the same bytes.
@@ -71,8 +67,6 @@ fn apply(slot: &Slot, requests: &[Vec<u8>]) -> Times {
 }
 
 fn check_bare() -> Times {
-    use beamsatchel_node::{ffi, model::fast};
-    use std::hint::black_box;
     let share = work::share();
     contest(
         &mut || assert_eq!(ffi::check_share(black_box(&share)).number, 0),
@@ -81,8 +75,6 @@ fn check_bare() -> Times {
 }
 
 fn check_in_container() -> Times {
-    use beamsatchel_node::{ffi, model::fast};
-    use std::hint::black_box;
     let container = Slot::with_share(60 * 1024);
     contest(
         &mut || assert_eq!(ffi::check_container(black_box(&container)).number, 0),

@@ -17,7 +17,6 @@ const REQUESTS: usize = 256;
 const REPLY_SPACE: usize = 8192;
 
 /// A slot with six leases.
-#[derive(Clone, Copy)]
 pub struct Slot {
     length: usize,
     size: usize,
