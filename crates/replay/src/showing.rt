@@ -1,0 +1,361 @@
+// The transcript, on standard output.
+use format::container::Judged;
+use libc::STDOUT_FILENO;
+use replaying::items::Fault;
+use rules::Answer;
+ghost use Prim.Native.Nat.{_+_, _*_, _≤_, _<_};
+ghost use lib.ListN.{length};
+ghost use Rattle.io.specs.Counts.{Counts};
+
+// Longer data and more extra leases are shortened.
+const MOST_BYTES: usize = 128;
+
+const MOST_EXTRAS: usize = 4;
+
+pub(crate) fn write(text: &[u8]) {
+    io::write_all(STDOUT_FILENO, text);
+}
+
+pub(crate) fn number(n: u64) {
+    io::print_decimal(STDOUT_FILENO, n);
+}
+
+fn least(x: usize, y: usize) -> usize
+    ensures { λ r. ⌜ (r ≤ x) × (r ≤ y) ⌝ }
+{
+    if x < y { x } else { y }
+}
+
+// n, or all of s where that is less.
+pub(crate) fn clip(n: usize, s: &[u8]) -> usize
+    ensures { λ r. ⌜ Counts r (now (s .entry)) ⌝ }
+{
+    least(n, s.len())
+}
+
+// A number in five columns.
+fn column(n: u64) {
+    if n < 10000 {
+        write(b" ");
+    }
+    if n < 1000 {
+        write(b" ");
+    }
+    if n < 100 {
+        write(b" ");
+    }
+    if n < 10 {
+        write(b" ");
+    }
+    number(n);
+}
+
+fn glyph(d: u8) -> u8
+    requires { ⌜ d < 16 ⌝ }
+{
+    if d < 10 { 48 + d } else { 55 + d }
+}
+
+fn hex(b: u8) {
+    let two = [glyph(b / 16), glyph(b % 16)];
+    write(&two);
+}
+
+fn hex_all(s: &[u8]) {
+    let mut i = 0;
+    while i < s.len() {
+        hex(s[i]);
+        i += 1;
+    }
+}
+
+fn cell(s: &[u8], i: usize) {
+    if i < s.len() {
+        hex(s[i]);
+        write(b" ");
+    } else {
+        write(b"   ");
+    }
+}
+
+// Sixteen cells, so that what follows stands in one column.
+fn hex_cells(s: &[u8]) {
+    let mut i = 0;
+    while i < 16 {
+        cell(s, i);
+        i += 1;
+    }
+}
+
+fn printable(b: u8) -> u8 {
+    if b < 32 {
+        return 46;
+    }
+    if 126 < b {
+        return 46;
+    }
+    b
+}
+
+fn ascii(s: &[u8]) {
+    let mut i = 0;
+    while i < s.len() {
+        let one = [printable(s[i])];
+        write(&one);
+        i += 1;
+    }
+}
+
+// At most 16 bytes with the position of the first.
+fn row(at: usize, s: &[u8]) {
+    write(b"      ");
+    column(at as u64);
+    write(b"  ");
+    hex_cells(s);
+    write(b" |");
+    ascii(s);
+    write(b"|\n");
+}
+
+fn rows(s: &[u8]) {
+    let mut at = 0;
+    while 16 < s.len() - at {
+        let e = at + 16;
+        row(at, &s[at..e]);
+        at = e;
+    }
+    row(at, &s[at..]);
+}
+
+// Nothing of no bytes.
+fn bytes(s: &[u8]) {
+    if s.len() == 0 {
+        return;
+    }
+    let n = clip(MOST_BYTES, s);
+    rows(&s[..n]);
+    if n < s.len() {
+        write(b"             ... and ");
+        number((s.len() - n) as u64);
+        write(b" bytes more\n");
+    }
+}
+
+// The outcome in words.
+fn name(outcome: u32) {
+    match outcome {
+        0 => write(b" 0 done"),
+        1 => write(b" 1 bad buffer length"),
+        2 => write(b" 2 not well formed"),
+        3 => write(b" 3 malformed request or argument"),
+        4 => write(b" 4 negative offset"),
+        5 => write(b" 5 wrong write enabler"),
+        6 => write(b" 6 read past the end"),
+        7 => write(b" 7 reply space too short"),
+        8 => write(b" 8 test is false"),
+        9 => write(b" 9 no such lease"),
+        10 => write(b"10 sixty-four leases already"),
+        11 => write(b"11 no room"),
+        12 => write(b"12 already a container"),
+        _ => number(outcome as u64),
+    }
+}
+
+fn answer(x: Answer) {
+    name(x.number);
+    write(b", count ");
+    number(x.count);
+    if x.number == 5 {
+        let node = x.node;
+        write(b", node ");
+        hex_all(&node);
+    }
+    write(b"\n");
+}
+
+pub(crate) fn created(x: Answer) {
+    write(b"create          ");
+    answer(x);
+}
+
+// What kind of request it is, by its first byte.
+fn kind(q: &[u8]) {
+    if q.len() == 0 {
+        write(b"empty request   ");
+        return;
+    }
+    match q[0] {
+        1 => write(b"test-and-write  "),
+        2 => write(b"add a lease     "),
+        3 => write(b"renew a lease   "),
+        4 => write(b"cancel a lease  "),
+        5 => write(b"read            "),
+        _ => write(b"unknown kind    "),
+    }
+}
+
+fn piece(i: usize, s: &[u8]) {
+    write(b"    piece ");
+    number(i as u64);
+    write(b", length ");
+    number(s.len() as u64);
+    write(b"\n");
+    bytes(s);
+}
+
+// The n pieces of a reply: a table of their lengths, then the pieces.
+fn pieces(r: &[u8], n: usize) {
+    if r.len() / 4 < n {
+        return;
+    }
+    let mut at = 4 * n;
+    let mut i = 0;
+    while i < n {
+        let k = octets::numbers::u32_at(r, 4 * i) as usize;
+        if r.len() - at < k {
+            return;
+        }
+        let e = at + k;
+        i += 1;
+        piece(i, &r[at..e]);
+        at = e;
+    }
+}
+
+fn wide(b: u8) -> usize {
+    b as usize
+}
+
+// Test-and-write and read have a reply, whose number of pieces is the request's second byte.
+fn reply(q: &[u8], r: &[u8]) {
+    if q.len() < 2 {
+        return;
+    }
+    let n = wide(q[1]);
+    match q[0] {
+        1 => pieces(r, n),
+        5 => pieces(r, n),
+        _ => {}
+    }
+}
+
+pub(crate) fn applied(q: &[u8], x: Answer, r: &[u8]) {
+    kind(q);
+    answer(x);
+    let n = clip(x.count as usize, r);
+    let number = x.number;
+    match number {
+        0 => reply(q, &r[..n]),
+        8 => reply(q, &r[..n]),
+        _ => {}
+    }
+}
+
+// The lease at p, if the place is not empty.
+fn lease(c: &[u8], p: usize, place: &[u8], i: usize)
+    requires { ⌜ p + 92 ≤ length (now c) ⌝ }
+{
+    let owner = octets::numbers::u32_at(c, p);
+    if owner == 0 {
+        return;
+    }
+    write(b"    lease in ");
+    write(place);
+    number(i as u64);
+    write(b": owner ");
+    number(owner as u64);
+    write(b", expiry ");
+    number(octets::numbers::u32_at(c, p + 4) as u64);
+    write(b"\n");
+}
+
+fn leases(c: &[u8], from: usize, n: usize, place: &[u8])
+    requires { ⌜ from + 92 * n ≤ length (now c) ⌝ }
+{
+    let mut i = 0;
+    let mut p = from;
+    while i < n {
+        i += 1;
+        lease(c, p, place, i);
+        p += 92;
+    }
+}
+
+fn parts(c: &[u8], size: usize, extras: usize)
+    requires { ⌜ 472 + size + 92 * extras ≤ length (now c) ⌝ }
+{
+    write(b"the container   data size ");
+    number(size as u64);
+    write(b", used ");
+    number((472 + size + 92 * extras) as u64);
+    write(b" of ");
+    number(c.len() as u64);
+    write(b" bytes\n");
+    bytes(format::container::data_of(c));
+    leases(c, 100, 4, b"place ");
+    let shown = least(extras, MOST_EXTRAS);
+    leases(c, 472 + size, shown, b"extra ");
+    if shown < extras {
+        write(b"    ... and ");
+        number((extras - shown) as u64);
+        write(b" extra places more\n");
+    }
+}
+
+// What a container holds at its end.
+pub(crate) fn container(c: &[u8]) {
+    match format::container::judge(c) {
+        Judged::BadLength => write(b"the container   none: the buffer's length is not allowed\n"),
+        Judged::Malformed => write(b"the container   none: the buffer is not well formed\n"),
+        Judged::Formed(size, extras) => parts(c, size, extras),
+    }
+}
+
+fn share_part(name: &[u8], part: &[u8]) {
+    write(name);
+    number(part.len() as u64);
+}
+
+fn share_parts(c: &[u8]) {
+    share_part(b"    an SDMF share: key ", shares::share::container_key(c));
+    share_part(b", signature ", shares::share::container_signature(c));
+    share_part(b", chain ", shares::share::container_chain(c));
+    share_part(b", tree ", shares::share::container_tree(c));
+    share_part(b", share data ", shares::share::container_share_data(c));
+    share_part(b", private key ", shares::share::container_private_key(c));
+    write(b" bytes\n");
+}
+
+// The share in a container's data; data too short for a share's header is passed over.
+pub(crate) fn share(c: &[u8]) {
+    let checked = shares::share::check_container(c);
+    if checked.number == 0 {
+        share_parts(c);
+        return;
+    }
+    if checked.number < 22 {
+        return;
+    }
+    write(b"    no SDMF share: outcome ");
+    number(checked.number as u64);
+    write(b"\n");
+}
+
+// Why a line was refused.
+pub(crate) fn fault(name: &[u8], line: u64, f: Fault) {
+    write(name);
+    write(b", line ");
+    number(line);
+    match f {
+        Fault::Word => write(b": the line begins with no word that is known\n"),
+        Fault::NoNumber => write(b": a decimal number is missing\n"),
+        Fault::LargeNumber => write(b": the number is too large\n"),
+        Fault::Item => write(b": bytes are pairs of hex digits, =NUMBER or 'text'\n"),
+        Fault::Quote => write(b": the text has no closing quote\n"),
+        Fault::Room => write(b": these are too many bytes\n"),
+        Fault::More => write(b": there is more on the line than belongs there\n"),
+        Fault::NoBuffer => write(b": there is no buffer yet\n"),
+        Fault::Begun => write(b": a request was begun and not applied\n"),
+        Fault::Answer => write(b": the last answer was another\n"),
+    }
+}

@@ -1,0 +1,88 @@
+-- The words that lines begin with.
+use Prim.Native.Nat.{ℕ, _+_, _-_, _≤_}
+use mathlib.Core.Bool.{Bool, true, false}
+use mathlib.Core.List.{List, [], _∷_}
+use lib.Dec.{eqb, ltb}
+use lib.ListN.{length, take, drop, getD}
+use Rattle.octets.specs.Strings.{same}
+use Rattle.replaying.specs.Scanning.{run}
+use Rattle.replaying.specs.Numerals.{decimalAt}
+use Rattle.replaying.specs.Items.{itemAt}
+use Rattle.replaying.specs.declared.scanning.Sort.the-variants.{But, Only}
+use Rattle.replaying.specs.declared.numerals.Decimal.{Decimal}
+use Rattle.replaying.specs.declared.numerals.Decimal.the-variants.{Missing, TooLarge, Value}
+use Rattle.replaying.specs.declared.items.Fault.the-variants.{NoNumber, LargeNumber, More}
+use Rattle.replaying.specs.declared.items.Item.{Item}
+use Rattle.replaying.specs.declared.items.Item.the-variants.{End, Repeat, Text}
+use Rattle.replaying.specs.declared.items.Item.the-variants.{Number as FourBytes}
+use Rattle.replaying.specs.declared.items.Item.the-variants.{Bad as NoItem}
+use Rattle.replaying.specs.declared.commands.Command.{Command}
+use Rattle.replaying.specs.declared.commands.Command.the-variants.{Nothing, Do}
+use Rattle.replaying.specs.declared.commands.Argument.{Argument}
+use Rattle.replaying.specs.declared.commands.Argument.the-variants.{Number, Bad}
+use Rattle.replaying.specs.declared.commands.Word.{Word}
+use Rattle.replaying.specs.declared.commands.Word.the-variants.{Buffer, Load, Node, Enabler, Create, Bytes, Apply, Expect, Say, Unknown}
+
+abbrev pub pickWord : Bool → Word → Word → Word
+pickWord true a b = a
+pickWord false a b = b
+
+-- buffer, load, node, enabler, create, bytes, apply, expect, say; in ASCII.
+unfoldable pub wordOf : List ℕ → Word
+wordOf w =
+    pickWord (same w (98 ∷ 117 ∷ 102 ∷ 102 ∷ 101 ∷ 114 ∷ [])) Buffer
+    (pickWord (same w (108 ∷ 111 ∷ 97 ∷ 100 ∷ [])) Load
+    (pickWord (same w (110 ∷ 111 ∷ 100 ∷ 101 ∷ [])) Node
+    (pickWord (same w (101 ∷ 110 ∷ 97 ∷ 98 ∷ 108 ∷ 101 ∷ 114 ∷ [])) Enabler
+    (pickWord (same w (99 ∷ 114 ∷ 101 ∷ 97 ∷ 116 ∷ 101 ∷ [])) Create
+    (pickWord (same w (98 ∷ 121 ∷ 116 ∷ 101 ∷ 115 ∷ [])) Bytes
+    (pickWord (same w (97 ∷ 112 ∷ 112 ∷ 108 ∷ 121 ∷ [])) Apply
+    (pickWord (same w (101 ∷ 120 ∷ 112 ∷ 101 ∷ 99 ∷ 116 ∷ [])) Expect
+    (pickWord (same w (115 ∷ 97 ∷ 121 ∷ [])) Say Unknown))))))))
+
+abbrev pub pickCommand : Bool → Command → Command → Command
+pickCommand true a b = a
+pickCommand false a b = b
+
+-- The word that begins at a position goes up to the next space.
+unfoldable pub wordTo : List ℕ → ℕ → ℕ → Command
+wordTo s at e = Do (wordOf (take (e - at) (drop at s))) e
+
+unfoldable pub commandHere : List ℕ → ℕ → Command
+commandHere s at = pickCommand (eqb (getD s at 0) 35) Nothing (wordTo s at (at + run (But 32) (drop at s)))
+
+unfoldable pub commandFrom : List ℕ → ℕ → Command
+commandFrom s p = pickCommand (ltb p (length s)) (commandHere s p) Nothing
+
+-- The command of a line, behind spaces.
+unfoldable pub commandOf : List ℕ → Command
+commandOf s = commandFrom s (0 + run (Only 32) (drop 0 s))
+
+-- The position behind a word is at most n.
+abbrev pub followed : ℕ → Command → Type 0
+followed n Nothing = Unit
+followed n (Do w next) = next ≤ n
+
+abbrev pub isEnd : Item → Bool
+isEnd End = true
+isEnd (Repeat b k next) = false
+isEnd (FourBytes v next) = false
+isEnd (Text a e next) = false
+isEnd (NoItem f) = false
+
+-- Nothing but spaces and a comment is left.
+unfoldable pub endsAt : List ℕ → ℕ → Bool
+endsAt s at = isEnd (itemAt s at)
+
+abbrev pub pickArgument : Bool → Argument → Argument → Argument
+pickArgument true a b = a
+pickArgument false a b = b
+
+abbrev pub argumentOf : List ℕ → Decimal → Argument
+argumentOf s Missing = Bad NoNumber
+argumentOf s TooLarge = Bad LargeNumber
+argumentOf s (Value v next) = pickArgument (endsAt s next) (Number v) (Bad More)
+
+-- The number behind spaces, where nothing follows it.
+unfoldable pub argumentAt : List ℕ → ℕ → ℕ → Argument
+argumentAt s at most = argumentOf s (decimalAt s (at + run (Only 32) (drop at s)) most)

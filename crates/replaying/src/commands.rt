@@ -1,0 +1,135 @@
+// The words that lines begin with.
+use crate::items;
+use crate::items::Fault;
+use crate::items::Item;
+use crate::numerals;
+use crate::numerals::Decimal;
+use crate::scanning;
+use crate::scanning::Sort;
+ghost use mathlib.Core.Path.{_≡_};
+ghost use Prim.Native.Nat.{_≤_, _<_};
+ghost use lib.ListN.{length};
+ghost use Rattle.octets.specs.Strings.{same};
+ghost use Rattle.replaying.specs.Commands.{wordOf, commandHere, commandOf, followed, endsAt, argumentAt};
+
+pub enum Word {
+    Buffer,
+    Load,
+    Node,
+    Enabler,
+    Create,
+    Bytes,
+    Apply,
+    Expect,
+    Say,
+    Unknown,
+}
+
+// A line: nothing to do, or a word and the position behind it.
+pub enum Command {
+    Nothing,
+    Do(Word, usize),
+}
+
+// The one number of a line, or why not.
+pub enum Argument {
+    Number(u32),
+    Bad(Fault),
+}
+
+fn is(w: &[u8], name: &[u8]) -> bool
+    ensures { λ r. ⌜ r ≡ same (now (w .entry)) (now (name .entry)) ⌝ }
+{
+    if w.len() == name.len() {
+        return octets::strings::same(w, name);
+    }
+    false
+}
+
+fn word_of(w: &[u8]) -> Word
+    ensures { λ r. ⌜ r ≡ wordOf (now (w .entry)) ⌝ }
+{
+    if is(w, b"buffer") {
+        return Word::Buffer;
+    }
+    if is(w, b"load") {
+        return Word::Load;
+    }
+    if is(w, b"node") {
+        return Word::Node;
+    }
+    if is(w, b"enabler") {
+        return Word::Enabler;
+    }
+    if is(w, b"create") {
+        return Word::Create;
+    }
+    if is(w, b"bytes") {
+        return Word::Bytes;
+    }
+    if is(w, b"apply") {
+        return Word::Apply;
+    }
+    if is(w, b"expect") {
+        return Word::Expect;
+    }
+    if is(w, b"say") {
+        return Word::Say;
+    }
+    Word::Unknown
+}
+
+// The command that begins at `at`, where a byte stands that is no space.
+fn command_here(s: &[u8], at: usize) -> Command
+    requires { ⌜ at < length (now s) ⌝ }
+    ensures { λ r. ⌜ (r ≡ commandHere (now (s .entry)) at) × followed (length (now (s .entry))) r ⌝ }
+{
+    if s[at] == 35 {
+        return Command::Nothing;
+    }
+    let e = scanning::run_end(s, at, Sort::But(32));
+    Command::Do(word_of(&s[at..e]), e)
+}
+
+// The command of a line; a line may be empty or a comment.
+pub fn command_of(s: &[u8]) -> Command
+    ensures { λ r. ⌜ (r ≡ commandOf (now (s .entry))) × followed (length (now (s .entry))) r ⌝ }
+{
+    let p = scanning::run_end(s, 0, Sort::Only(32));
+    if p < s.len() {
+        return command_here(s, p);
+    }
+    Command::Nothing
+}
+
+// Whether nothing but spaces and a comment is left.
+pub fn ends(s: &[u8], at: usize) -> bool
+    requires { ⌜ at ≤ length (now s) ⌝ }
+    ensures { λ r. ⌜ r ≡ endsAt (now (s .entry)) at ⌝ }
+{
+    match items::next_item(s, at) {
+        Item::End => true,
+        Item::Repeat(_, _, _) => false,
+        Item::Number(_, _) => false,
+        Item::Text(_, _, _) => false,
+        Item::Bad(_) => false,
+    }
+}
+
+// The number that is all that is left.
+pub fn only_number(s: &[u8], at: usize, most: u32) -> Argument
+    requires { ⌜ at ≤ length (now s) ⌝ }
+    ensures { λ r. ⌜ r ≡ argumentAt (now (s .entry)) at most ⌝ }
+{
+    let p = scanning::run_end(s, at, Sort::Only(32));
+    match numerals::decimal_at(s, p, most) {
+        Decimal::Missing => Argument::Bad(Fault::NoNumber),
+        Decimal::TooLarge => Argument::Bad(Fault::LargeNumber),
+        Decimal::Value(v, next) => {
+            if ends(s, next) {
+                return Argument::Number(v);
+            }
+            Argument::Bad(Fault::More)
+        }
+    }
+}
