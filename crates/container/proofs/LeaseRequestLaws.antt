@@ -1,9 +1,9 @@
 -- What a lease request answers and leaves, by the rules of the whole container. Assumes nothing.
-use mathlib.Core.Path.{_≡_, refl, sym, ap, _∙_}
+use mathlib.Core.Path.{_≡_, refl, _∙_}
 use mathlib.Core.Bool.{Bool, true, false, cond, not, _&&_}
-use mathlib.Core.List.{List, [], _∷_, _++_}
-use mathlib.Core.Option.{Option, none, some}
-use Prim.Native.Nat.{ℕ, _+_, _-_, _≤_}
+use mathlib.Core.List.{List, [], _∷_}
+use mathlib.Core.Option.{some}
+use Prim.Native.Nat.{ℕ, _-_}
 use native.Mathlib.Omega.{arith}
 use lib.ListN.{length, take, drop, length-drop}
 use lib.Dec.{eqb, leb, ltb}
@@ -11,14 +11,12 @@ use lib.Seq.{take-all}
 use borrow.Author.Tests.{eqb-true}
 use Rattle.octets.specs.Moves.{put}
 use Rattle.format.specs.Container.{wellFormed, held, renewalOf}
-use Rattle.format.specs.Parts.{Parts, partsOf, encode, used}
-use Rattle.format.specs.Known.{Known}
+use Rattle.format.specs.Parts.{Parts, partsOf, used}
 use Rattle.format.proofs.WellFormed.{both}
 use Rattle.rules.specs.Requests.{Request, testWrite, add, renew, cancel, read, requestOf, addOk, renewOk, cancelOk}
 use Rattle.rules.specs.Leasing.{renewedBy, cancelledBy, knows, present}
-use Rattle.rules.specs.Outcomes.{row, lowest, rows, roomRows, requestRows, replies, counted, answerOf, noNode, answerTo, afterOf, after, replyBytes, replyTo, outcome, answered, containerAfter, replyAfter}
+use Rattle.rules.specs.Outcomes.{row, lowest, rows, roomRows, requestRows, replies, answerOf, noNode, answerTo, afterOf, after, replyBytes, replyTo, outcome, answered, containerAfter, replyAfter}
 use Rattle.rules.proofs.OutcomeLaws.{outcome-formed}
-use Rattle.rules.proofs.RequestLaws.{add-proper}
 use Rattle.leases.specs.Operations.{leaseOutcome, leaseDone, leaseContainer}
 use Rattle.leases.specs.declared.operations.Done.{Done}
 

@@ -2,20 +2,20 @@
 use mathlib.Core.Path.{_≡_, refl, sym, _∙_}
 use mathlib.Core.Bool.{Bool, true, false, cond, not}
 use mathlib.Core.List.{List, [], _∷_}
-use mathlib.Core.Option.{Option, none, some}
-use Prim.Native.Nat.{ℕ, _+_, _-_, _≤_, _<_}
+use mathlib.Core.Option.{some}
+use Prim.Native.Nat.{ℕ, _≤_, _<_}
 use native.Mathlib.Omega.{arith}
 use lib.Dec.{eqb, ltb}
-use lib.ListN.{length, take, drop}
+use lib.ListN.{length}
 use borrow.Author.Tests.{lt-ltb, le-ltb}
 use Rattle.octets.specs.Moves.{put}
 use Rattle.octets.specs.Strings.{Octets}
-use Rattle.format.specs.Container.{wellFormed, dataOf, sizeOf, extrasOf}
-use Rattle.format.specs.Parts.{Parts, partsOf, encode}
+use Rattle.format.specs.Container.{wellFormed, dataOf, sizeOf}
+use Rattle.format.specs.Parts.{partsOf, encode}
 use Rattle.format.specs.Known.{Known}
 use Rattle.format.proofs.WellFormed.{data-length}
 use Rattle.format.proofs.RoundTrip.{encode-parts}
-use Rattle.rules.specs.Requests.{Read, Request, read, readCount, readsFrom, requestOf}
+use Rattle.rules.specs.Requests.{Read, read, readCount, readsFrom, requestOf}
 use Rattle.rules.specs.Testing.{exceeds, anyOf, replyOf}
 use Rattle.rules.specs.Outcomes.{row, lowest, resolved, replyTo, counted, rows, roomRows, requestRows, outcome, replies, answerOf, noNode, answerTo, replyBytes, after, afterOf, answered, containerAfter, replyAfter}
 use Rattle.rules.specs.declared.Answer.{Answer}

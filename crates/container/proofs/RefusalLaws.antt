@@ -1,7 +1,7 @@
 -- Outcomes 1, 2 and 3: what is answered, and that nothing changes. Assumes nothing.
-use mathlib.Core.Path.{_≡_, refl, sym, ap, _∙_}
-use mathlib.Core.Bool.{Bool, true, false, cond, not}
-use mathlib.Core.List.{List, [], _∷_}
+use mathlib.Core.Path.{_≡_, refl, _∙_}
+use mathlib.Core.Bool.{true, false}
+use mathlib.Core.List.{List}
 use mathlib.Core.Option.{Option, none, some}
 use Prim.Native.Nat.{ℕ}
 use lib.ListN.{length}
@@ -9,7 +9,7 @@ use lib.Dec.{eqb}
 use Rattle.format.specs.Container.{lengthAllowed, wellFormed}
 use Rattle.format.specs.Parts.{Parts, partsOf}
 use Rattle.rules.specs.Requests.{Request, requestOf}
-use Rattle.rules.specs.Outcomes.{row, lowest, requestRows, replies, answerOf, noNode, answerTo, outcome, answered, containerAfter, replyAfter}
+use Rattle.rules.specs.Outcomes.{lowest, requestRows, replies, answerOf, noNode, answerTo, outcome, answered, containerAfter, replyAfter}
 use Rattle.rules.proofs.OutcomeLaws.{outcome-formed}
 
 -- A call that is answered n, with no node id and no count, and leaves container and reply space as they were.

@@ -1,7 +1,7 @@
 -- The container (document 01, "The container"): a table of fields in one buffer, numbers big-endian.
 -- Every definition is total: of bytes that are no container it says something, and `wellFormed` says that they are none.
 use Prim.Native.Nat.{ℕ, zero, suc, _+_, _*_}
-use mathlib.Core.Bool.{Bool, true, false, cond, not, _&&_}
+use mathlib.Core.Bool.{Bool, true, cond, not, _&&_}
 use mathlib.Core.List.{List, [], _∷_, _++_}
 use lib.ListN.{length, take, drop}
 use lib.Dec.{eqb, leb}

@@ -3,12 +3,12 @@ use mathlib.Core.Path.{_≡_, refl, sym, ap, _∙_}
 use mathlib.Core.Bool.{Bool, true, false, cond}
 use mathlib.Core.List.{List, [], _∷_, _++_}
 use mathlib.Core.Option.{Option, none, some}
-use Prim.Native.Nat.{ℕ, zero, suc, _+_, _-_, _≤_, _<_, min}
+use Prim.Native.Nat.{ℕ, _-_}
 use lib.ListN.{length, getD, take, length-take}
 use lib.Seq.{getD-take}
 use lib.Dec.{leb}
 use borrow.Author.Tests.{leb-true, leb-false}
-use Rattle.rules.specs.Writing.{writeAt, grow, covers, Placed, writeAll, cutTo}
+use Rattle.rules.specs.Writing.{writeAt, covers, Placed, writeAll, cutTo}
 use Rattle.rules.proofs.WriteLaws.{length-write, at-write, at-take-past}
 use Rattle.histories.specs.Accepted.{Change, wrote, cutAt, sizeBy, sizeAfter, says, orElse, value, lastSays, cutChange, writeChanges}
 

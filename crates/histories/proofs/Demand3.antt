@@ -1,22 +1,22 @@
 -- Demand 3, whole, over bytes. Assumes nothing.
 use mathlib.Core.Path.{_≡_, refl, sym, ap, _∙_}
-use mathlib.Core.Bool.{Bool, true, false, cond, not, true≢false, false≢true}
-use mathlib.Core.List.{List, [], _∷_, _++_}
+use mathlib.Core.Bool.{Bool, true, false, cond}
+use mathlib.Core.List.{List, [], _∷_}
 use mathlib.Core.Option.{Option, none, some}
-use Prim.Native.Nat.{ℕ, zero, suc, _+_, _≤_, _<_}
-use lib.ListN.{length, getD}
+use Prim.Native.Nat.{ℕ}
+use lib.ListN.{length}
 use lib.Dec.{eqb}
-use Rattle.format.specs.Container.{wellFormed, dataOf, leasesOf}
+use Rattle.format.specs.Container.{dataOf}
 use Rattle.format.specs.Parts.{Parts, Valid, encode, fresh}
 use Rattle.format.proofs.RoundTrip.{encode-formed, leases-encode, data-encode}
 use Rattle.rules.specs.Requests.{Request, testWrite, add, renew, cancel, read, requestOf}
 use Rattle.rules.specs.Writing.{placed, rewritten}
 use Rattle.rules.specs.Outcomes.{withBytes, withLeases, after, afterOf, createOutcome, createdContainer}
 use Rattle.rules.proofs.Demand1.{created, created-valid}
-use Rattle.histories.specs.Runs.{Call, Heard, hears, leaves, ruleOutcome, ruleHears, ruleLeaves, answers, final, isLease, isData, only, beside, noRoom, Never, Woven}
-use Rattle.histories.specs.Accepted.{Change, sizeAfter, value, lastSays, byteAfter, changesOf, took, accepted}
+use Rattle.histories.specs.Runs.{Call, Heard, hears, leaves, ruleOutcome, ruleHears, ruleLeaves, answers, final, isLease, isData, noRoom, Never, Woven}
+use Rattle.histories.specs.Accepted.{Change, sizeAfter, byteAfter, changesOf, took, accepted}
 use Rattle.histories.specs.Claims.{Alike, ByRules, Told, Demand3}
-use Rattle.histories.proofs.Sides.{Sided, Agree, agree}
+use Rattle.histories.proofs.Sides.{agree}
 use Rattle.histories.proofs.Follows.{valid-final, follows-answers, follows-final}
 use Rattle.histories.proofs.ChangeLaws.{performAll, length-performAll, at-performAll, performAll-append, perform-changes}
 use Rattle.histories.proofs.Steps.{heardBy, leftBy, earlyOf, heard-number, dataSide, leaseSide, room-stays, data-calls, lease-calls, follows}

@@ -1,5 +1,5 @@
 -- A run on encodings follows the run on what they encode, and an invariant lasts. Assumes nothing.
-use mathlib.Core.Path.{_≡_, refl, sym, ap, ap₂, _∙_}
+use mathlib.Core.Path.{_≡_, refl, ap, ap₂, _∙_}
 use mathlib.Core.List.{List, [], _∷_}
 use Rattle.histories.specs.Runs.{answers, final}
 

@@ -4,21 +4,21 @@ use mathlib.Core.Path.{_≡_, refl, sym, ap, _∙_}
 use mathlib.Core.Bool.{Bool, true, false, cond}
 use mathlib.Core.List.{List, [], _∷_, _++_, append-assoc, append-nil}
 use mathlib.Core.Option.{Option, none, some}
-use Prim.Native.Nat.{ℕ, zero, suc, _+_, _≤_, _<_}
-use lib.ListN.{length, getD, take, drop}
+use Prim.Native.Nat.{ℕ, _+_, _≤_, _<_}
+use lib.ListN.{length, getD, drop}
 use lib.Seq.{getD-take, getD-drop}
-use lib.Dec.{eqb, leb}
+use lib.Dec.{leb}
 use lib.IntN.{pos}
 use borrow.Author.Tests.{le-leb}
 use Rattle.format.specs.Container.{dataOf}
-use Rattle.format.specs.Parts.{Parts, Each}
-use Rattle.rules.specs.Requests.{Test, Write, Request, testWrite, requestOf}
+use Rattle.format.specs.Parts.{Each}
+use Rattle.rules.specs.Requests.{Test, Write, testWrite, requestOf}
 use Rattle.rules.specs.Testing.{resolve, orZero, position, piece}
 use Rattle.rules.specs.Writing.{covers, Placed, placed}
 use Rattle.rules.specs.Outcomes.{createOutcome, createdContainer}
 use Rattle.histories.specs.Runs.{Call, Heard, hears, leaves, answers, final}
 use Rattle.histories.specs.Accepted.{Change, wrote, cutAt, sizeBy, sizeAfter, says, orElse, value, lastSays, byteAfter, cutChange, writeChanges, changesOf, took, accepted}
-use Rattle.histories.specs.Claims.{Told, Demand3}
+use Rattle.histories.specs.Claims.{Demand3}
 use Rattle.histories.proofs.Demand3.{demand-3}
 
 -- ---- what was said before a cut is forgotten

@@ -1,7 +1,7 @@
 -- One side of a state, seen by a view: a run in which no answer is bad shows there what the side's own calls do alone.
 -- Over any calls, answers and states. Assumes nothing.
 use mathlib.Core.Path.{_≡_, refl, sym, ap, ap₂, _∙_}
-use mathlib.Core.Bool.{Bool, true, false, cond}
+use mathlib.Core.Bool.{Bool, true, false}
 use mathlib.Core.List.{List, [], _∷_}
 use Rattle.histories.specs.Runs.{answers, final, only, beside, Never}
 

@@ -1,19 +1,18 @@
 -- One call over parts: what it hears and leaves, its two sides, and that bytes follow parts. Assumes nothing.
 use mathlib.Core.Path.{_≡_, refl, sym, ap, _∙_}
 use mathlib.Core.Bool.{Bool, true, false, cond, not, _&&_, true≢false, false≢true}
-use mathlib.Core.List.{List, [], _∷_, _++_, map}
+use mathlib.Core.List.{[]}
 use mathlib.Core.Option.{Option, none, some}
-use Prim.Native.Nat.{ℕ, zero, suc, _+_, _≤_, _<_}
-use native.Mathlib.Omega.{arith}
+use Prim.Native.Nat.{ℕ}
 use lib.ListN.{length}
-use lib.Dec.{eqb, leb, ltb}
+use lib.Dec.{eqb, leb}
 use borrow.Author.Tests.{eqb-true}
 use Rattle.octets.specs.Moves.{put}
-use Rattle.format.specs.Parts.{Parts, Valid, partsOf, encode}
-use Rattle.format.proofs.RoundTrip.{encode-formed, parts-encode}
-use Rattle.rules.specs.Requests.{Request, testWrite, add, renew, cancel, read, requestOf, kindOf, testWriteOf, readsFrom}
-use Rattle.rules.specs.Outcomes.{withBytes, withLeases, after, afterOf, lowest, rows, roomRows, resolved, requestRows, replies, counted, answerTo, replyTo, replyBytes, outcome, answered, containerAfter, replyAfter}
-use Rattle.rules.proofs.Kept.{Proper, after-valid, not-false}
+use Rattle.format.specs.Parts.{Parts, Valid, encode}
+use Rattle.format.proofs.RoundTrip.{parts-encode}
+use Rattle.rules.specs.Requests.{Request, testWrite, add, renew, cancel, read, requestOf, kindOf, testWriteOf}
+use Rattle.rules.specs.Outcomes.{withBytes, withLeases, after, afterOf, lowest, rows, resolved, requestRows, replies, counted, answerTo, replyTo, replyBytes, answered, containerAfter, replyAfter}
+use Rattle.rules.proofs.Kept.{after-valid, not-false}
 use Rattle.rules.proofs.RequestLaws.{Kinds, broken, tests, adds, renews, cancels, reads, kinds, ProperOption, request-proper}
 use Rattle.rules.proofs.OutcomeLaws.{outcome-encode, answer-number, earlyRows, early, outcome-early}
 use Rattle.histories.specs.Runs.{Call, Heard, hears, leaves, ruleOutcome, ruleHears, ruleLeaves, isLease, isData, noRoom}

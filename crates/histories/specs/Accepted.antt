@@ -1,12 +1,12 @@
 -- The accepted writes and cuts of a history, the size that they give and the byte that they leave at a position:
 -- from the requests and the outcome numbers alone, with no container.
 use Prim.Native.Nat.{ℕ, _-_, min}
-use mathlib.Core.Bool.{Bool, true, false, cond}
+use mathlib.Core.Bool.{cond}
 use mathlib.Core.List.{List, [], _∷_, _++_}
 use mathlib.Core.Option.{Option, none, some}
 use lib.ListN.{length, getD}
 use lib.Dec.{eqb, leb}
-use Rattle.rules.specs.Requests.{Write, Request, testWrite, add, renew, cancel, read, requestOf}
+use Rattle.rules.specs.Requests.{Request, testWrite, add, renew, cancel, read, requestOf}
 use Rattle.rules.specs.Writing.{grow, covers, Placed, placed}
 use Rattle.histories.specs.Runs.{Call, Heard}
 

@@ -6,7 +6,7 @@ use mathlib.Core.List.{List}
 use lib.ListN.{length, getD}
 use Rattle.format.specs.Container.{wellFormed, dataOf, leasesOf}
 use Rattle.format.specs.Parts.{Parts, encode}
-use Rattle.histories.specs.Runs.{Call, Heard, hears, leaves, ruleHears, ruleLeaves, answers, final, isLease, isData, beside, noRoom, Never, Woven}
+use Rattle.histories.specs.Runs.{Call, hears, leaves, ruleHears, ruleLeaves, answers, final, isLease, isData, beside, noRoom, Never, Woven}
 use Rattle.histories.specs.Accepted.{Change, sizeAfter, byteAfter, accepted}
 
 -- Two histories on the same container bytes: beside each read and test-and-write the same is heard in both, beside each

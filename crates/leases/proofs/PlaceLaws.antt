@@ -1,18 +1,17 @@
 -- Reading the lease places: where they stand, the first that passes a test, how many hold a lease, what is left without the empty tail. Assumes nothing.
 use mathlib.Core.Path.{_≡_, refl, sym, ap, _∙_}
-use mathlib.Core.Bool.{Bool, true, false, cond, not}
+use mathlib.Core.Bool.{Bool, true, false, cond}
 use mathlib.Core.List.{List, [], _∷_, _++_}
 use mathlib.Core.Option.{none, some}
 use Prim.Native.Nat.{ℕ, zero, suc, _+_, _-_, _*_, _≤_, _<_}
 use native.Mathlib.Nat.{zero-add, add-assoc}
 use native.Mathlib.Omega.{arith}
-use lib.Dec.{eqb, ltb}
+use lib.Dec.{ltb}
 use lib.ListN.{length, take, drop, getD, List·getD-append}
 use lib.Seq.{take-nil, take-take, drop-drop, getD-append-add}
 use borrow.Author.Tests.{ltb-true, ltb-false}
 use borrow.Author.Count.{below-more}
-use Rattle.octets.specs.Numbers.{numberAt}
-use Rattle.format.specs.Container.{limit, leasesAt, countAt, sizeOf, extrasOf, records, leasesOf, ownerOf, held}
+use Rattle.format.specs.Container.{limit, leasesAt, countAt, sizeOf, extrasOf, records, leasesOf, held}
 use Rattle.format.proofs.WellFormed.{Fields, Formed, formed-facts, count-is, used-is, length-records, length-leases, records-add, record-at}
 use Rattle.rules.specs.Leasing.{next, firstOf, withLast, trim, present}
 use Rattle.rules.proofs.LeaseLaws.{length-trim}

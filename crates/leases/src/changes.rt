@@ -1,10 +1,9 @@
 // Changes to one lease place of a well-formed container, in place: no other byte is touched but the count.
 ghost use mathlib.Core.Path.{_≡_};
-ghost use mathlib.Core.Bool.{true};
 ghost use mathlib.Core.List.{[], _∷_, _++_};
 ghost use Prim.Native.Nat.{_+_, _*_, _≤_, _<_};
-ghost use lib.ListN.{length, getD, set};
-ghost use Rattle.format.specs.Container.{held, leasesOf, usedLength};
+ghost use lib.ListN.{length, set};
+ghost use Rattle.format.specs.Container.{leasesOf, usedLength};
 ghost use Rattle.format.specs.Parts.{partsOf, encode, noLease};
 ghost use Rattle.rules.specs.Leasing.{extended, dropTail};
 ghost use Rattle.rules.specs.Outcomes.{withLeases};

@@ -2,18 +2,18 @@
 use mathlib.Core.Path.{_≡_, refl, sym, ap, _∙_}
 use mathlib.Core.Bool.{Bool, true, false, cond, _&&_}
 use mathlib.Core.List.{List, [], _∷_, _++_, map, append-nil}
-use Prim.Native.Nat.{ℕ, zero, suc, _+_, _*_, _-_, _^_, _≤_, _<_}
+use Prim.Native.Nat.{ℕ, zero, suc, _+_, _*_, _-_, _≤_, _<_}
 use native.Mathlib.Nat.{mul-suc}
 use native.Mathlib.Omega.{arith}
 use lib.Dec.{ltb}
 use lib.ListN.{length, take, drop, length-append, length-take, length-drop, take-append-drop}
 use Rattle.octets.specs.Moves.{put}
-use Rattle.octets.specs.Numbers.{numberAt, digits}
+use Rattle.octets.specs.Numbers.{digits}
 use Rattle.octets.specs.Strings.{Octets, order, join}
 use Rattle.octets.proofs.MoveLaws.{put-put}
 use Rattle.octets.proofs.NumberLaws.{length-digits}
 use Rattle.rules.specs.Requests.{entryOffset, entryCount, entryOpcode, entrySpecimen, allFrom, sumFrom, testsFrom, readsFrom}
-use Rattle.rules.specs.Testing.{resolve, orZero, resolves, position, piece, testPiece, readPiece, exceeds, decides, holds, every, anyOf, replyOf}
+use Rattle.rules.specs.Testing.{resolves, position, piece, testPiece, readPiece, exceeds, decides, holds, every, anyOf, replyOf}
 use Rattle.requests.specs.Cursors.{entryAt, testEntryAt}
 use Rattle.requests.specs.declared.cursors.Entry.{Entry}
 use Rattle.requests.specs.declared.cursors.TestEntry.{TestEntry}

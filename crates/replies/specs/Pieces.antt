@@ -5,7 +5,7 @@ use mathlib.Core.Bool.{Bool}
 use mathlib.Core.List.{List, [], _∷_}
 use lib.ListN.{length}
 use Rattle.rules.specs.Requests.{entryOffset, entryCount, allFrom}
-use Rattle.rules.specs.Testing.{resolves, piece, replyOf}
+use Rattle.rules.specs.Testing.{resolves, piece}
 
 -- The pieces of d for the n entries from p on.
 unfoldable pub piecesFrom : ℕ → ℕ → ℕ → List ℕ → List ℕ → List (List ℕ)

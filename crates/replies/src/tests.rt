@@ -1,6 +1,6 @@
 // The tests of a test-and-write.
 ghost use mathlib.Core.Path.{_≡_};
-ghost use Prim.Native.Nat.{_+_, _*_, _≤_};
+ghost use Prim.Native.Nat.{_+_, _≤_};
 ghost use lib.ListN.{length};
 ghost use Rattle.rules.specs.Requests.{testsFrom, entrySpecimen, sumFrom};
 ghost use Rattle.rules.specs.Testing.{decides, holds, every};

@@ -6,7 +6,6 @@ use lib.ListN.{getD}
 use Rattle.octets.specs.Numbers.{numberAt}
 use Rattle.rules.specs.Requests.{entryOffset, entryCount}
 use Rattle.rules.specs.Testing.{resolves, position}
-use Rattle.requests.specs.declared.cursors.Cursor.{Cursor}
 use Rattle.requests.specs.declared.cursors.Resolved.{Resolved}
 use Rattle.requests.specs.declared.cursors.Entry.{Entry}
 use Rattle.requests.specs.declared.cursors.TestEntry.{TestEntry}

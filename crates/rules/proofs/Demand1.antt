@@ -1,14 +1,14 @@
 -- Demand 1 of the rules, for any bytes. Assumes nothing.
 use mathlib.Core.Path.{_≡_, refl, sym, ap, _∙_}
-use mathlib.Core.Bool.{Bool, true, false, cond, not, _&&_, true≢false, false≢true}
-use mathlib.Core.List.{List, [], _∷_, _++_, map}
+use mathlib.Core.Bool.{Bool, true, false, cond, not, _&&_, false≢true}
+use mathlib.Core.List.{List, [], _∷_}
 use mathlib.Core.Option.{Option, none, some}
-use Prim.Native.Nat.{ℕ, zero, suc, _+_, _-_, _≤_, _<_}
+use Prim.Native.Nat.{ℕ, _+_, _≤_}
 use native.Mathlib.Nat.{zero-add}
 use native.Mathlib.Omega.{arith}
-use lib.ListN.{length, take, drop, length-append, length-drop}
+use lib.ListN.{length, take, drop}
 use lib.Seq.{drop-at}
-use lib.Dec.{eqb, leb, ltb}
+use lib.Dec.{eqb, leb}
 use borrow.Author.Tests.{eqb-true, eqb-false, leb-true, ltb-false, ne-eqb}
 use Rattle.octets.specs.Moves.{put}
 use Rattle.octets.proofs.MoveLaws.{put-length}
@@ -18,12 +18,11 @@ use Rattle.format.specs.Parts.{Parts, Valid, Each, partsOf, encode, fresh}
 use Rattle.format.proofs.WellFormed.{both}
 use Rattle.format.proofs.RoundTrip.{parts-valid, encode-formed, length-encode, fresh-valid}
 use Rattle.rules.specs.Requests.{Request, testWrite, add, renew, cancel, read, requestOf}
-use Rattle.rules.specs.Testing.{every, holds, anyOf, exceeds}
-use Rattle.rules.specs.Outcomes.{withBytes, withLeases, after, afterOf, Row, row, lowest, rows, roomRows, requestRows, resolved, replyTo, replyBytes, replies, counted, outcome, answerTo, answered, containerAfter, replyAfter, createOutcome, createAnswer, createdContainer}
+use Rattle.rules.specs.Outcomes.{withBytes, withLeases, after, afterOf, Row, row, lowest, rows, roomRows, requestRows, replyTo, replyBytes, replies, counted, outcome, answerTo, answered, containerAfter, replyAfter, createOutcome, createAnswer, createdContainer}
 use Rattle.rules.specs.Claims.{Demand1, Demand1Create}
-use Rattle.rules.proofs.Kept.{clear, not-false, Proper, after-valid}
+use Rattle.rules.proofs.Kept.{clear, not-false, after-valid}
 use Rattle.rules.proofs.RequestLaws.{ProperOption, request-proper}
-use Rattle.rules.proofs.OutcomeLaws.{formed-length, outcome-formed, answer-number}
+use Rattle.rules.proofs.OutcomeLaws.{outcome-formed, answer-number}
 
 -- ---- every row's number is in the table
 bounded : (rs : List Row) → Each (λ r. r .number ≤ 11) rs → lowest rs ≤ 11

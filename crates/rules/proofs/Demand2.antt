@@ -1,25 +1,24 @@
 -- Demand 2 of the rules: a test-and-write is done exactly when the listed conditions hold, and what it then does. Assumes nothing.
 use mathlib.Core.Path.{_≡_, refl, sym, ap, _∙_}
-use mathlib.Core.Bool.{Bool, true, false, cond, not, _&&_, true≢false, false≢true}
-use mathlib.Core.List.{List, [], _∷_, _++_, map}
+use mathlib.Core.Bool.{Bool, true, false≢true}
+use mathlib.Core.List.{List, [], _∷_}
 use mathlib.Core.Option.{Option, none, some}
 use mathlib.Core.Logic.{_↔_}
-use Prim.Native.Nat.{ℕ, zero, suc, _+_, _≤_, _<_}
+use Prim.Native.Nat.{ℕ}
 use native.Mathlib.Omega.{arith}
-use lib.ListN.{length, drop}
-use lib.Dec.{eqb, ltb}
+use lib.ListN.{length}
 use lib.IntN.{ℤ, pos, negsuc}
 use borrow.Author.Tests.{ltb-false, le-ltb}
 use Rattle.octets.specs.Strings.{same}
 use Rattle.octets.proofs.StringLaws.{same-eq, same-refl}
-use Rattle.format.specs.Container.{wellFormed, enablerOf, dataOf, leasesOf}
-use Rattle.format.specs.Parts.{Parts, Each, used, partsOf}
+use Rattle.format.specs.Container.{wellFormed, enablerOf, dataOf}
+use Rattle.format.specs.Parts.{Parts, Each, partsOf}
 use Rattle.format.proofs.WellFormed.{both}
 use Rattle.format.proofs.RoundTrip.{parts-encode}
-use Rattle.rules.specs.Requests.{Test, Write, Request, testWrite, add, renew, cancel, read, kindOf, testWriteOf, requestOf}
-use Rattle.rules.specs.Testing.{resolve, isSome, resolves, position, testPiece, holds, every, replyOf}
-use Rattle.rules.specs.Writing.{grow, writesResolve, rewritten}
-use Rattle.rules.specs.Outcomes.{withBytes, after, afterOf, row, lowest, rows, roomRows, requestRows, resolved, replyTo, outcome, answered, containerAfter}
+use Rattle.rules.specs.Requests.{Test, Write, testWrite, kindOf, testWriteOf, requestOf}
+use Rattle.rules.specs.Testing.{resolve, isSome, resolves, holds, every}
+use Rattle.rules.specs.Writing.{writesResolve, rewritten}
+use Rattle.rules.specs.Outcomes.{withBytes, after, afterOf, lowest, rows, roomRows, requestRows, resolved, replyTo, outcome, answered, containerAfter}
 use Rattle.rules.specs.Claims.{NotNegative, Accepts, Writes}
 use Rattle.rules.proofs.Kept.{clear, not-false}
 use Rattle.rules.proofs.RequestLaws.{Kinds, broken, tests, adds, renews, cancels, reads, kinds}

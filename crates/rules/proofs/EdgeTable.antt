@@ -1,17 +1,15 @@
 -- P1 to P10: the table holds, and the whole request of 62 bytes. Assumes nothing.
-use mathlib.Core.Path.{_≡_, refl, sym, ap, ap₂, _∙_}
-use mathlib.Core.Bool.{Bool, true, false, cond, not, _&&_}
+use mathlib.Core.Path.{_≡_, refl, ap₂, _∙_}
 use mathlib.Core.List.{List, [], _∷_, _++_, map}
-use mathlib.Core.Option.{Option, none, some}
-use Prim.Native.Nat.{ℕ, zero, suc, _+_}
+use mathlib.Core.Option.{some}
+use Prim.Native.Nat.{ℕ, zero, suc}
 use native.Mathlib.Omega.{arith}
-use lib.ListN.{length, take, drop, getD, replicate}
-use lib.IntN.{ℤ, pos, negsuc}
-use lib.Dec.{eqb, leb, ltb}
+use lib.ListN.{length, take, drop, replicate}
+use lib.IntN.{pos}
 use Rattle.octets.specs.Numbers.{numberAfter, number, numberAt, digits}
 use Rattle.octets.specs.Strings.{allZero, same, order, join}
 use Rattle.format.specs.Container.{lengthAllowed, countAt, usedLength, nodeOf, enablerOf, sizeOf, dataOf, extrasOf, records, leasesOf, ownerOf, expiryOf, renewalOf, cancelOf, held, recordOk, recordsOk, lastHeld, fieldsOk, contentsOk, wellFormed}
-use Rattle.format.specs.Parts.{Parts, extras, used, partsOf, encode, noLease, fresh}
+use Rattle.format.specs.Parts.{extras, used, partsOf, encode, noLease, fresh}
 use Rattle.rules.specs.Requests.{Write, entryOffset, entryCount, entryOpcode, entrySpecimen, testEntryOk, allFrom, sumFrom, testsFrom, writesFrom, readsFrom, testCount, writeCount, cutFlag, newLength, writesAt, specimensAt, newDataAt, testWriteEnd, cutOk, testWriteOk, cutOf, testWriteOf, addOk, renewOk, cancelOk, readCount, readOk, given, kindOf, byKind, requestOf}
 use Rattle.rules.specs.Testing.{resolve, isSome, orZero, resolves, position, piece, testPiece, readPiece, exceeds, below, level, atMost, decides, holds, every, anyOf, replyOf}
 use Rattle.rules.specs.Writing.{padTo, writeAt, grow, placed, writesResolve, writeAll, sizeAll, cutTo, cutSize, rewritten}

@@ -1,24 +1,23 @@
 -- A request that is answered 0 leaves parts that obey the rules and fit. Assumes nothing.
-use mathlib.Core.Path.{_≡_, refl, sym, ap, _∙_}
-use mathlib.Core.Bool.{Bool, true, false, cond, not, _&&_, true≢false, false≢true}
-use mathlib.Core.List.{List, [], _∷_, _++_, map}
+use mathlib.Core.Path.{_≡_, refl, sym, _∙_}
+use mathlib.Core.Bool.{Bool, true, false, not, _&&_, true≢false}
+use mathlib.Core.List.{List, [], _∷_, _++_}
 use mathlib.Core.Option.{Option, none, some}
-use Prim.Native.Nat.{ℕ, zero, suc, _+_, _-_, _*_, _≤_, _<_}
+use Prim.Native.Nat.{ℕ, _+_, _-_, _*_, _≤_, _<_}
 use native.Mathlib.Omega.{arith}
-use lib.ListN.{length, take, drop, getD, set, length-append, length-take, length-drop, length-set}
-use lib.Seq.{take-at, drop-at, drop-append-le, length-take-le}
-use lib.Dec.{ltb, leb, eqb}
-use borrow.Author.Tests.{ltb-true, ltb-false, leb-true, leb-false}
-use Rattle.octets.specs.Strings.{same}
-use Rattle.format.specs.Container.{held, recordOk, lastHeld, expiryOf, renewalOf, usedLength, countAt}
+use lib.ListN.{length, take, drop, getD, set, length-append, length-drop, length-set}
+use lib.Seq.{drop-at, drop-append-le, length-take-le}
+use lib.Dec.{leb}
+use borrow.Author.Tests.{ltb-false, leb-false}
+use Rattle.format.specs.Container.{held, lastHeld, expiryOf, renewalOf, usedLength, countAt}
 use Rattle.format.specs.Parts.{Parts, Place, Each, Valid, used, extras, noLease}
 use Rattle.format.proofs.WellFormed.{both}
 use Rattle.format.proofs.RoundTrip.{each-append, each-take, each-drop, no-lease}
 use Rattle.rules.specs.Requests.{Request, testWrite, add, renew, cancel, read}
-use Rattle.rules.specs.Testing.{isSome, holds, every, anyOf, exceeds}
+use Rattle.rules.specs.Testing.{isSome}
 use Rattle.rules.specs.Leasing.{renewedBy, cancelledBy, vacant, firstOf, later, extended, placedAt, trim, dropTail, addedAt, added, renewedAt, renewed, cancelledAt, cancelled, knows, present}
-use Rattle.rules.specs.Outcomes.{withBytes, withLeases, after, Row, row, lowest, rows, roomRows, requestRows, resolved, replyTo}
-use Rattle.rules.proofs.LeaseLaws.{each-set, each-at, Found, first-found, none-some, full-present, length-later, held-later, held-ok, last-set, last-drop-set, last-snoc, last-trim, each-trim, length-trim}
+use Rattle.rules.specs.Outcomes.{withBytes, withLeases, after, Row, row, lowest, rows, roomRows}
+use Rattle.rules.proofs.LeaseLaws.{each-set, each-at, Found, first-found, full-present, length-later, held-later, held-ok, last-drop-set, last-snoc, last-trim, each-trim, length-trim}
 
 -- ---- the lowest number is 0 only where no row applies
 pub not-false : (b : Bool) → not b ≡ false → b ≡ true

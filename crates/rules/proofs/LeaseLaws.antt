@@ -1,22 +1,19 @@
 -- Lease requests keep the places in order. Assumes nothing.
-use mathlib.Core.Path.{_≡_, refl, sym, ap, _∙_}
-use mathlib.Core.Bool.{Bool, true, false, cond, not, _&&_, true≢false, false≢true}
+use mathlib.Core.Path.{_≡_, refl, sym, ap}
+use mathlib.Core.Bool.{Bool, true, false, cond, not}
 use mathlib.Core.List.{List, [], _∷_, _++_}
 use mathlib.Core.Option.{Option, none, some}
 use Prim.Native.Nat.{ℕ, zero, suc, _+_, _-_, _≤_, _<_, max}
 use native.Mathlib.Omega.{arith}
-use lib.ListN.{length, take, drop, getD, set, replicate, length-append, length-take, length-drop, length-set, length-replicate}
+use lib.ListN.{length, take, drop, getD, set, length-append, length-take, length-drop}
 use lib.Seq.{take-at, length-take-le, drop-set-lt, drop-set-add}
 use lib.Dec.{ltb}
 use borrow.Author.Tests.{ltb-true, ltb-false}
-use Rattle.octets.specs.Numbers.{numberAfter, numberAt, number, digits}
-use Rattle.octets.specs.Strings.{allZero}
+use Rattle.octets.specs.Numbers.{numberAt, number, digits}
 use Rattle.octets.proofs.NumberLaws.{length-digits}
-use Rattle.octets.proofs.StringLaws.{allZero-replicate}
-use Rattle.format.specs.Container.{ownerOf, expiryOf, renewalOf, held, recordOk, lastHeld}
-use Rattle.format.specs.Parts.{Place, Each}
-use Rattle.rules.specs.Testing.{isSome}
-use Rattle.rules.specs.Leasing.{renewedBy, cancelledBy, vacant, next, firstOf, later, extended, placedAt, withLast, trim, dropTail, addedAt, added, renewedAt, renewed, cancelledAt, cancelled, knows, present}
+use Rattle.format.specs.Container.{ownerOf, expiryOf, held, recordOk, lastHeld}
+use Rattle.format.specs.Parts.{Each}
+use Rattle.rules.specs.Leasing.{vacant, next, firstOf, later, withLast, trim, present}
 
 -- ---- what holds of each place
 pub each-set : {A : Type 0} (P : A → Type 0) (ls : List A) (i : ℕ) (r : A) → Each P ls → P r → Each P (set ls i r)

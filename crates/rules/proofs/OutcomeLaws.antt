@@ -1,18 +1,16 @@
 -- The outcome on a well-formed container, with and without the room. Assumes nothing.
-use mathlib.Core.Path.{_≡_, refl, sym, ap, _∙_}
-use mathlib.Core.Bool.{Bool, true, false, cond, not, _&&_, true≢false, false≢true}
+use mathlib.Core.Path.{_≡_, refl, _∙_}
+use mathlib.Core.Bool.{Bool, true, false, cond, true≢false}
 use mathlib.Core.List.{List, [], _∷_, _++_}
 use mathlib.Core.Option.{Option, none, some}
-use Prim.Native.Nat.{ℕ, zero, suc, _+_, _≤_, _<_}
-use lib.ListN.{length}
+use Prim.Native.Nat.{ℕ}
 use lib.Dec.{eqb, ltb}
 use Rattle.format.specs.Container.{lengthAllowed, wellFormed}
 use Rattle.format.specs.Parts.{Parts, Valid, used, partsOf, encode}
 use Rattle.format.proofs.WellFormed.{both}
 use Rattle.format.proofs.RoundTrip.{encode-formed, parts-encode}
 use Rattle.rules.specs.Requests.{Request, testWrite, add, renew, cancel, read, requestOf}
-use Rattle.rules.specs.Outcomes.{after, afterOf, Row, row, lowest, rows, roomRows, requestRows, outcome, answerTo}
-use Rattle.rules.specs.declared.Answer.{Answer}
+use Rattle.rules.specs.Outcomes.{after, Row, row, lowest, rows, roomRows, requestRows, outcome, answerTo}
 
 pub formed-length : (c : List ℕ) → wellFormed c ≡ true → lengthAllowed c ≡ true
 unfolding wellFormed

@@ -1,16 +1,16 @@
 -- What a request's bytes are read as. Assumes nothing.
-use mathlib.Core.Path.{_≡_, refl, sym, ap, _∙_}
-use mathlib.Core.Bool.{Bool, true, false, cond, not, _&&_, true≢false, false≢true}
-use mathlib.Core.List.{List, [], _∷_, _++_}
+use mathlib.Core.Path.{_≡_, refl}
+use mathlib.Core.Bool.{Bool, true, false, _&&_, false≢true}
+use mathlib.Core.List.{List}
 use mathlib.Core.Option.{Option, none, some}
-use Prim.Native.Nat.{ℕ, zero, suc, _+_, _-_, _*_, _≤_, _<_}
+use Prim.Native.Nat.{ℕ, _≤_}
 use native.Mathlib.Omega.{arith}
-use lib.ListN.{length, take, drop, getD, length-drop}
+use lib.ListN.{length, take, drop, length-drop}
 use lib.Dec.{leb, eqb}
-use borrow.Author.Tests.{leb-true, leb-false, eqb-true, eqb-false}
+use borrow.Author.Tests.{leb-true, eqb-true}
 use Rattle.octets.specs.Numbers.{numberAt}
 use Rattle.format.specs.Container.{held}
-use Rattle.rules.specs.Requests.{Request, testWrite, add, renew, cancel, read, requestLimit, testWriteOk, testWriteOf, addOk, renewOk, cancelOk, readOk, readCount, readsAt, readsFrom, given, kindOf, byKind, requestOf}
+use Rattle.rules.specs.Requests.{Request, add, renew, cancel, read, requestLimit, testWriteOk, testWriteOf, addOk, renewOk, cancelOk, readOk, readCount, readsAt, readsFrom, given, kindOf, byKind, requestOf}
 use Rattle.rules.proofs.Kept.{Proper}
 
 -- The ways to read a request: one for each kind whose format holds, else none.

@@ -1,18 +1,16 @@
 -- Secrets stay in: neither answer nor reply tells the write enabler or the leases. Assumes nothing.
-use mathlib.Core.Path.{_≡_, refl, sym, ap, _∙_}
-use mathlib.Core.Bool.{Bool, true, false, cond, not, _&&_}
-use mathlib.Core.List.{List, [], _∷_, _++_, map}
-use mathlib.Core.Option.{Option, none, some}
-use Prim.Native.Nat.{ℕ, zero, suc, _≤_}
+use mathlib.Core.Path.{_≡_, refl, sym, _∙_}
+use mathlib.Core.Bool.{true, cond}
+use mathlib.Core.List.{List}
+use Prim.Native.Nat.{ℕ}
 use native.Mathlib.Omega.{arith}
 use lib.ListN.{length, take, drop}
-use lib.Dec.{eqb}
 use borrow.Author.Tests.{ne-eqb}
 use Rattle.octets.specs.Strings.{same}
 use Rattle.octets.specs.Moves.{put}
-use Rattle.format.specs.Container.{wellFormed, nodeOf, enablerOf, dataOf}
-use Rattle.format.specs.Parts.{Parts, partsOf}
-use Rattle.rules.specs.Requests.{Request, testWrite, add, renew, cancel, read, kindOf, testWriteOf, requestOf}
+use Rattle.format.specs.Container.{wellFormed, enablerOf}
+use Rattle.format.specs.Parts.{partsOf}
+use Rattle.rules.specs.Requests.{kindOf, testWriteOf, requestOf}
 use Rattle.rules.specs.Outcomes.{lowest, rows, roomRows, requestRows, resolved, replyTo, replyBytes, replies, counted, outcome, answerTo, answered, replyAfter}
 use Rattle.rules.specs.Claims.{SamePublic, SameReply}
 use Rattle.rules.proofs.RequestLaws.{Kinds, broken, tests, adds, renews, cancels, reads, kinds}

@@ -1,14 +1,13 @@
 -- What is claimed of the rules (demands 1 and 2, and that secrets stay in). Proved in proofs/.
 use Prim.Native.Nat.{ℕ, _≤_}
 use mathlib.Core.Path.{_≡_}
-use mathlib.Core.Bool.{Bool, true, false}
+use mathlib.Core.Bool.{true}
 use mathlib.Core.List.{List, map}
 use mathlib.Core.Option.{Option, some}
-use lib.ListN.{length, take, drop}
+use lib.ListN.{length, drop}
 use lib.IntN.{ℤ, pos, negsuc}
-use Rattle.octets.specs.Strings.{same}
-use Rattle.format.specs.Container.{least, limit, wellFormed, nodeOf, enablerOf, dataOf, leasesOf}
-use Rattle.format.specs.Parts.{Parts, Each, used, partsOf}
+use Rattle.format.specs.Container.{wellFormed, nodeOf, enablerOf, dataOf, leasesOf}
+use Rattle.format.specs.Parts.{Each, used, partsOf}
 use Rattle.rules.specs.Requests.{Test, Write, testWrite, requestOf}
 use Rattle.rules.specs.Testing.{testPiece, holds, replyOf}
 use Rattle.rules.specs.Writing.{rewritten}

@@ -1,9 +1,9 @@
 -- Lease requests (document 01, "Testing, writing, leasing"), over the lease places in order: the four, then the extras.
-use Prim.Native.Nat.{ℕ, zero, suc, _+_, max}
-use mathlib.Core.Bool.{Bool, true, false, cond, not, _&&_}
+use Prim.Native.Nat.{ℕ, suc, _+_, max}
+use mathlib.Core.Bool.{Bool, cond, not, _&&_}
 use mathlib.Core.List.{List, [], _∷_, _++_}
 use mathlib.Core.Option.{Option, none, some}
-use lib.ListN.{length, take, drop, getD, set}
+use lib.ListN.{take, drop, getD, set}
 use Rattle.octets.specs.Numbers.{digits}
 use Rattle.octets.specs.Strings.{same}
 use Rattle.format.specs.Container.{held, expiryOf, renewalOf, cancelOf}

@@ -1,6 +1,6 @@
 -- Outcomes (document 01, "Outcomes"): the table, the answer record, and what becomes of container and reply space.
-use Prim.Native.Nat.{ℕ, zero, suc, _+_}
-use mathlib.Core.Bool.{Bool, true, false, cond, not, _&&_}
+use Prim.Native.Nat.{ℕ}
+use mathlib.Core.Bool.{Bool, true, cond, not, _&&_}
 use mathlib.Core.List.{List, [], _∷_, _++_, map}
 use mathlib.Core.Option.{Option, none, some}
 use lib.ListN.{length, take, replicate}
@@ -9,7 +9,7 @@ use Rattle.octets.specs.Strings.{same}
 use Rattle.octets.specs.Moves.{put}
 use Rattle.format.specs.Container.{magic, lengthAllowed, wellFormed, renewalOf}
 use Rattle.format.specs.Parts.{Parts, used, partsOf, encode, fresh}
-use Rattle.rules.specs.Requests.{Test, Read, Write, Request, testWrite, add, renew, cancel, read, requestOf}
+use Rattle.rules.specs.Requests.{Request, testWrite, add, renew, cancel, read, requestOf}
 use Rattle.rules.specs.Testing.{resolves, testPiece, readPiece, exceeds, holds, every, anyOf, replyOf}
 use Rattle.rules.specs.Writing.{writesResolve, rewritten}
 use Rattle.rules.specs.Leasing.{renewedBy, cancelledBy, added, renewed, cancelled, knows, present}

@@ -1,7 +1,7 @@
 -- What the checker answers, for a share's bytes and for a container that holds a share as its data.
 use Prim.Native.Nat.{ℕ, _+_}
-use mathlib.Core.Bool.{Bool, true, false, cond}
-use mathlib.Core.List.{List, [], _∷_, map}
+use mathlib.Core.Bool.{cond}
+use mathlib.Core.List.{List, map}
 use lib.ListN.{replicate}
 use lib.Dec.{eqb}
 use Rattle.format.specs.Container.{dataAt, lengthAllowed, wellFormed, dataOf}

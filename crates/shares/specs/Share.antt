@@ -6,7 +6,7 @@ use lib.ListN.{length, getD}
 use lib.Dec.{eqb, leb, ltb}
 use Rattle.octets.specs.Numbers.{numberAt}
 use Rattle.rules.specs.Outcomes.{row, lowest}
-use Rattle.shares.specs.Bounds.{Bound, above, from, inOrder}
+use Rattle.shares.specs.Bounds.{above, from, inOrder}
 
 -- The header, field by field.
 abbrev pub version : List ℕ → ℕ

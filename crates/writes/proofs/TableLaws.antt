@@ -2,16 +2,15 @@
 use mathlib.Core.Path.{_≡_, refl, sym, ap, _∙_}
 use mathlib.Core.Bool.{Bool, true, false, not, _&&_, true≢false, false≢true}
 use mathlib.Core.List.{List, [], _∷_, map, append-nil}
-use Prim.Native.Nat.{ℕ, zero, suc, _+_, _-_, _^_, _≤_, _<_, min, max}
+use Prim.Native.Nat.{ℕ, zero, suc, _+_, _-_, _≤_, _<_, min, max}
 use native.Mathlib.Omega.{arith}
 use native.Mathlib.Nat.{add-zero}
 use lib.ListN.{length, take, drop, replicate, length-take, length-drop, take-append-drop}
 use lib.Seq.{take-append-le, length-take-le}
-use Rattle.octets.specs.Numbers.{numberAt, signed}
 use Rattle.octets.specs.Strings.{Octets}
 use Rattle.octets.specs.Moves.{put}
 use Rattle.rules.specs.Requests.{Write, entryOffset, entryCount, sumFrom, writesFrom}
-use Rattle.rules.specs.Testing.{resolve, orZero, resolves, position}
+use Rattle.rules.specs.Testing.{resolves, position}
 use Rattle.rules.specs.Writing.{padTo, writeAt, grow, placed, writesResolve, writeAll, sizeAll}
 use Rattle.rules.proofs.WriteLaws.{clip, take-min}
 use Rattle.requests.specs.declared.cursors.Entry.{Entry}

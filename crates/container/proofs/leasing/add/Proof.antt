@@ -1,16 +1,16 @@
 -- An added lease answers and leaves what the rules say; the record is the request after its first byte.
 use native.Mathlib.Omega.{arith}
-use mathlib.Core.Path.{_≡_, refl, sym, ap, _∙_}
+use mathlib.Core.Path.{ap, _∙_}
 use mathlib.Core.List.{List}
-use Prim.Native.Nat.{ℕ, _-_}
-use lib.ListN.{length, take, drop, length-drop}
+use Prim.Native.Nat.{ℕ}
+use lib.ListN.{length, drop}
 use borrow.Author.Needs.{needs}
 use Rattle.format.specs.Container.{held}
 use Rattle.format.specs.Parts.{partsOf}
-use Rattle.rules.specs.Requests.{add, renew, cancel}
+use Rattle.rules.specs.Requests.{add}
 use Rattle.rules.proofs.RequestLaws.{add-proper}
 use Rattle.leases.specs.Operations.{leaseDone, leaseContainer}
-use Rattle.container.proofs.LeaseRequestLaws.{lease-answered, lease-container, add-length, renew-length, cancel-length, rest-is}
+use Rattle.container.proofs.LeaseRequestLaws.{lease-answered, lease-container, add-length, rest-is}
 use Rattle.container.proofs.leasing.add.Statement.{statement}
 use Rattle.container.proofs.leasing.add.Tie as tie
 

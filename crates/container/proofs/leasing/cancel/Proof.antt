@@ -1,16 +1,14 @@
 -- A cancelled lease; the token is the request after its first byte.
 use native.Mathlib.Omega.{arith}
-use mathlib.Core.Path.{_≡_, refl, sym, ap, _∙_}
+use mathlib.Core.Path.{ap, _∙_}
 use mathlib.Core.List.{List}
-use Prim.Native.Nat.{ℕ, _-_}
-use lib.ListN.{length, take, drop, length-drop}
+use Prim.Native.Nat.{ℕ}
+use lib.ListN.{length, drop, length-drop}
 use borrow.Author.Needs.{needs}
-use Rattle.format.specs.Container.{held}
 use Rattle.format.specs.Parts.{partsOf}
-use Rattle.rules.specs.Requests.{add, renew, cancel}
-use Rattle.rules.proofs.RequestLaws.{add-proper}
+use Rattle.rules.specs.Requests.{cancel}
 use Rattle.leases.specs.Operations.{leaseDone, leaseContainer}
-use Rattle.container.proofs.LeaseRequestLaws.{lease-answered, lease-container, add-length, renew-length, cancel-length, rest-is}
+use Rattle.container.proofs.LeaseRequestLaws.{lease-answered, lease-container, cancel-length, rest-is}
 use Rattle.container.proofs.leasing.cancel.Statement.{statement}
 use Rattle.container.proofs.leasing.cancel.Tie as tie
 

@@ -1,17 +1,15 @@
 -- A renewed lease; token and expiry stand in the request.
 use native.Mathlib.Omega.{arith}
-use mathlib.Core.Path.{_≡_, refl, sym, ap, _∙_}
+use mathlib.Core.Path.{ap, _∙_}
 use mathlib.Core.List.{List}
-use Prim.Native.Nat.{ℕ, _-_}
-use lib.ListN.{length, take, drop, length-drop}
+use Prim.Native.Nat.{ℕ}
+use lib.ListN.{take, drop}
 use borrow.Author.Needs.{needs}
 use Rattle.octets.specs.Numbers.{numberAt}
-use Rattle.format.specs.Container.{held}
 use Rattle.format.specs.Parts.{partsOf}
-use Rattle.rules.specs.Requests.{add, renew, cancel}
-use Rattle.rules.proofs.RequestLaws.{add-proper}
+use Rattle.rules.specs.Requests.{renew}
 use Rattle.leases.specs.Operations.{leaseDone, leaseContainer}
-use Rattle.container.proofs.LeaseRequestLaws.{lease-answered, lease-container, add-length, renew-length, cancel-length, rest-is}
+use Rattle.container.proofs.LeaseRequestLaws.{lease-answered, lease-container, renew-length}
 use Rattle.container.proofs.leasing.renew.Statement.{statement}
 use Rattle.container.proofs.leasing.renew.Tie as tie
 

@@ -1,7 +1,5 @@
 -- The buffer is judged first: outcomes 1 and 2, then the request.
-use mathlib.Core.Path.{_≡_, sym, _∙_}
-use mathlib.Core.List.{List}
-use Prim.Native.Nat.{ℕ}
+use mathlib.Core.Path.{sym, _∙_}
 use borrow.Author.Needs.{needs}
 use Rattle.format.proofs.JudgedLaws.{judged-formed, judged-malformed, judged-length}
 use Rattle.container.proofs.RefusalLaws.{bad-length, malformed}
