@@ -10,15 +10,21 @@ use lib.Dec.{eqb, leb, ltb}
 use lib.Seq.{take-all}
 use borrow.Author.Tests.{eqb-true}
 use Rattle.octets.specs.Moves.{put}
-use Rattle.format.specs.Container.{wellFormed, held, renewalOf}
+use Rattle.format.specs.Container.{wellFormed}
+use Rattle.format.specs.Layout.{renewalOf}
 use Rattle.format.specs.Parts.{Parts, partsOf, used}
-use Rattle.format.proofs.WellFormed.{both}
-use Rattle.rules.specs.Requests.{Request, testWrite, add, renew, cancel, read, requestOf, addOk, renewOk, cancelOk}
+use Rattle.rules.specs.Requests.{Request, testWrite, add, renew, cancel, read, requestOf}
 use Rattle.rules.specs.Leasing.{renewedBy, cancelledBy, knows, present}
-use Rattle.rules.specs.Outcomes.{row, lowest, rows, roomRows, requestRows, replies, answerOf, noNode, answerTo, afterOf, after, replyBytes, replyTo, outcome, answered, containerAfter, replyAfter}
+use Rattle.octets.specs.Rows.{row, firstRow}
+use Rattle.rules.specs.Outcomes.{rows, roomRows, requestRows, replies, answerOf, noNode, answerTo, afterOf, after}
+use Rattle.rules.specs.Outcomes.{replyBytes, replyTo, outcome, answered, containerAfter, replyAfter, admitRows}
+use Rattle.rules.specs.Outcomes.{findRows}
 use Rattle.rules.proofs.OutcomeLaws.{outcome-formed}
 use Rattle.leases.specs.Operations.{leaseOutcome, leaseDone, leaseContainer}
+use Rattle.octets.specs.Lists.{maybe}
+use Rattle.octets.specs.Numbers.{number}
 use Rattle.leases.specs.declared.operations.Done.{Done}
+use Rattle.rules.specs.declared.Answer.{Answer}
 
 -- Kinds 2 to 4.
 abbrev pub LeaseRequest : Request → Type 0
@@ -33,19 +39,19 @@ pub record Plain (n : ℕ) : Type 0 where
   pub no-node : eqb n 5 ≡ false
   pub only-done : replies n ≡ eqb n 0
 
-one-row : (b : Bool) → Plain (lowest (row 9 b ∷ []))
-unfolding lowest replies
+one-row : (b : Bool) → Plain (firstRow (row 9 b ∷ []))
+unfolding firstRow replies
 one-row true = record { no-node = refl; only-done = refl }
 one-row false = record { no-node = refl; only-done = refl }
 
-two-rows : (a b : Bool) → Plain (lowest (row 10 a ∷ (row 11 b ∷ [])))
-unfolding lowest replies
+two-rows : (a b : Bool) → Plain (firstRow (row 10 a ∷ (row 11 b ∷ [])))
+unfolding firstRow replies
 two-rows true b = record { no-node = refl; only-done = refl }
 two-rows false true = record { no-node = refl; only-done = refl }
 two-rows false false = record { no-node = refl; only-done = refl }
 
 plain : (p : Parts) (q : Request) → LeaseRequest q → Plain (leaseOutcome p q)
-unfolding leaseOutcome rows roomRows
+unfolding leaseOutcome rows admitRows findRows roomRows
 plain p (testWrite k ts ws cut) l = absurd l
 plain p (add r) l = two-rows (leb 64 (present (p .leases)) && not (knows (renewedBy (renewalOf r)) (p .leases))) (ltb (p .room) (used (after p (add r))))
 plain p (renew t x) l = one-row (not (knows (renewedBy t) (p .leases)))
@@ -53,8 +59,8 @@ plain p (cancel t) l = one-row (not (knows (cancelledBy t) (p .leases)))
 plain p (read rs) l = absurd l
 
 -- The reply space does not matter to them.
-outcome-lease : (p : Parts) (q : Request) (n : ℕ) → LeaseRequest q → lowest (requestRows p (some q) n) ≡ leaseOutcome p q
-unfolding requestRows leaseOutcome rows
+outcome-lease : (p : Parts) (q : Request) (n : ℕ) → LeaseRequest q → firstRow (requestRows p (some q) n) ≡ leaseOutcome p q
+unfolding requestRows leaseOutcome rows admitRows findRows
 outcome-lease p (testWrite k ts ws cut) n l = absurd l
 outcome-lease p (add r) n l = refl
 outcome-lease p (renew t x) n l = refl
@@ -80,30 +86,19 @@ module _ (c q : List ℕ) (w : Request) (f : wellFormed c ≡ true) (is : reques
       rw (e, outcome-is r, is, n .no-node, n .only-done)
 
   pub lease-container : (r : List ℕ) → leaseContainer c w ≡ containerAfter c q r
-  unfolding containerAfter leaseContainer afterOf
+  unfolding containerAfter leaseContainer afterOf maybe
   lease-container r = rw (outcome-is r, is)
 
   pub lease-reply : (r : List ℕ) → r ≡ replyAfter c q r
-  unfolding replyAfter replyBytes
+  unfolding replyAfter replyBytes maybe
   lease-reply r = rw (is, no-reply (partsOf c) w l) (go (replies (outcome c q (length r))))
     where
       go : (b : Bool) → r ≡ cond b (put 0 [] r) r
       go true = refl
       go false = refl
 
--- The lengths of the three forms.
-pub add-length : (q : List ℕ) → addOk q ≡ true → length q ≡ 93
-unfolding addOk
-add-length q e = eqb-true _ _ (both (eqb (length q) 93) (held (drop 1 q)) e .0)
-
-pub renew-length : (q : List ℕ) → renewOk q ≡ true → length q ≡ 37
-unfolding renewOk
-renew-length q e = eqb-true _ _ e
-
-pub cancel-length : (q : List ℕ) → cancelOk q ≡ true → length q ≡ 33
-unfolding cancelOk
-cancel-length q e = eqb-true _ _ e
-
--- The request after its first byte, as the slice has it.
-pub rest-is : (q : List ℕ) → take (length q - 1) (drop 1 q) ≡ drop 1 q
-rest-is q = take-all (length q - 1) (drop 1 q) (rw length-drop (omega arith))
+  -- the answer, the container and the reply space that a call of the lease code makes
+  pub lease-results : (d : Done) (e r : List ℕ) (x : Answer) → d ≡ leaseDone (partsOf c) w → e ≡ leaseContainer c w
+      → x ≡ answerOf (d .number) noNode (d .count)
+      → (x ≡ answered c q r) × ((e ≡ containerAfter c q r) × (r ≡ replyAfter c q r))
+  lease-results d e r x i j k = (k ∙ lease-answered d i r, (j ∙ lease-container r, lease-reply r))

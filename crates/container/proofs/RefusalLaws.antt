@@ -9,7 +9,9 @@ use lib.Dec.{eqb}
 use Rattle.format.specs.Container.{lengthAllowed, wellFormed}
 use Rattle.format.specs.Parts.{Parts, partsOf}
 use Rattle.rules.specs.Requests.{Request, requestOf}
-use Rattle.rules.specs.Outcomes.{lowest, requestRows, replies, answerOf, noNode, answerTo, outcome, answered, containerAfter, replyAfter}
+use Rattle.octets.specs.Rows.{firstRow}
+use Rattle.rules.specs.Outcomes.{requestRows, replies, answerOf, noNode, answerTo, outcome, answered, containerAfter}
+use Rattle.rules.specs.Outcomes.{replyAfter}
 use Rattle.rules.proofs.OutcomeLaws.{outcome-formed}
 
 -- A call that is answered n, with no node id and no count, and leaves container and reply space as they were.
@@ -50,13 +52,13 @@ unfolding replies
 silent3 = record { not-done = refl; no-node = refl; no-reply = refl }
 
 pub bad-length : (c q r : List ℕ) → lengthAllowed c ≡ false → Refused 1 c q r
-unfolding outcome lowest
+unfolding outcome firstRow
 bad-length c q r e = silent-refused 1 c q r silent1 (rw e)
 
 pub malformed : (c q r : List ℕ) → lengthAllowed c ≡ true → wellFormed c ≡ false → Refused 2 c q r
-unfolding outcome lowest
+unfolding outcome firstRow
 malformed c q r l e = silent-refused 2 c q r silent2 (rw (l, e))
 
 pub broken : (c q r : List ℕ) → wellFormed c ≡ true → requestOf q ≡ none → Refused 3 c q r
-unfolding lowest requestRows
+unfolding firstRow requestRows
 broken c q r w e = silent-refused 3 c q r silent3 (outcome-formed c q (length r) w ∙ rw e)

@@ -1,55 +1,50 @@
--- A test-and-write judged row by row, and what its number makes of answer, container and reply space. Assumes nothing.
+-- A test-and-write judged group by group, and what its number makes of answer, container and reply space. Assumes nothing.
 use mathlib.Core.Path.{_≡_, refl, sym, ap, _∙_}
 use mathlib.Core.Bool.{Bool, true, false, cond, not, _&&_, false≢true}
-use mathlib.Core.List.{List, [], _∷_, _++_}
+use mathlib.Core.List.{List, [], _∷_, _++_, map}
 use mathlib.Core.Option.{Option, none, some}
 use Prim.Native.Nat.{ℕ, zero, suc, _+_, _-_, _*_, _≤_, max}
 use native.Mathlib.Omega.{arith}
 use lib.Dec.{eqb, ltb}
+use Rattle.octets.specs.Moves.{put}
 use lib.ListN.{length, take, drop, length-take, length-drop}
 use borrow.Author.Tests.{ltb-false, ne-eqb, eqb-true}
-use Rattle.octets.specs.Strings.{same}
-use Rattle.octets.specs.Moves.{put}
-use Rattle.format.specs.Container.{usedLength, nodeOf, dataOf, extrasOf}
-use Rattle.format.specs.Parts.{Parts, extras, used, partsOf, encode}
-use Rattle.format.specs.Known.{Known}
-use Rattle.format.proofs.WellFormed.{used-is, length-leases, data-length}
-use Rattle.format.proofs.RoundTrip.{parts-valid}
-use Rattle.rules.specs.Requests.{Write, entryOffset, entryCount, entrySpecimen, sumFrom, testsFrom, writesFrom, testCount, writeCount, cutFlag, newLength, testsAt, writesAt, specimensAt, newDataAt, cutOf, testWriteOf}
-use Rattle.rules.specs.Testing.{position, holds, every, replyOf}
-use Rattle.rules.specs.Writing.{grow, placed, sizeAll, cutSize, rewritten, finalSize}
-use Rattle.rules.specs.Outcomes.{withBytes, after, replyTo, Row, row, lowest, resolved, rows, roomRows, requestRows, outcome, replies, counted, answerOf, noNode, answerTo, afterOf, replyBytes, answered, containerAfter, replyAfter}
+use Rattle.format.specs.declared.layout.Frame.{Frame}
 use Rattle.rules.specs.declared.Answer.{Answer}
-use Rattle.rules.proofs.Kept.{after-valid}
-use Rattle.rules.proofs.OutcomeLaws.{outcome-formed}
-use Rattle.rules.proofs.WriteLaws.{length-writeAll, length-cutTo}
-use Rattle.requests.specs.declared.forms.Table.{Table}
-use Rattle.requests.proofs.FormLaws.{table-facts, table-places}
-use Rattle.writes.specs.Tables as writes
+use Rattle.requests.specs.declared.forms.Parted.{Parted}
+use Rattle.replies.specs.declared.pieces.Measured.{Measured}
 use Rattle.writes.specs.declared.sizes.Reached.{Reached}
-use Rattle.requests.proofs.CursorLaws.{position-below}
-use Rattle.replies.specs.Pieces.{piecesFrom, resolveFrom, Entries}
-use Rattle.replies.proofs.PieceLaws.{test-pieces, test-resolve}
-use Rattle.container.specs.Forms.{WriteRequest}
-use Rattle.container.specs.Verdicts.{verdictOf, firstRow}
 use Rattle.container.specs.declared.writing.Verdict.{Verdict}
-
--- ---- the tables of the request lie inside it
-pub record Inside (q : List ℕ) (t : Table) : Type 0 where
-  pub tests : Entries 12 (t .tests) 40 q
-  pub specimens : t .specimens + sumFrom (λ p. entrySpecimen p q) 12 (t .tests) 40 ≤ length q
-  pub writes : writes.Table (t .writes) (40 + 12 * t .tests) (t .bodies) q
-
-pub inside : {q : List ℕ} {t : Table} → WriteRequest q t → Inside q t
-inside {q} W =
-    let f = table-facts q (W .ok) in
-    let p = table-places q in
-    let e : 40 + 12 * testCount q ≡ writesAt q = sym (p .writes) in
-    rw (W .table) (record {
-      tests = record { wide = omega arith; narrow = omega arith; few = f .tests; inside = omega arith };
-      specimens = omega arith;
-      writes = rw e (record { few = f .writes; rows = omega arith; bodies = omega arith });
-    })
+use Rattle.container.specs.Writing.{Decided, verdictOf, WriteRequest}
+use Rattle.format.specs.Judging.{Known}
+use Rattle.octets.proofs.RowLaws.{Numbered, rows-first, rows-second}
+use Rattle.rules.specs.Requests.{Request, Write, writesFrom, entryCount, entryOffset, entrySize}
+use Rattle.octets.specs.Rows.{Row, firstRow, row}
+use Rattle.rules.specs.Outcomes.{after, answered, replies, replyTo, requestRows, rows, admitRows, answerOf}
+use Rattle.rules.specs.Outcomes.{containerAfter, counted, outcome, withBytes, findRows, noNode, replyAfter, roomRows}
+use Rattle.rules.specs.Outcomes.{afterOf, answerTo, replyBytes}
+use Rattle.requests.specs.Forms.{cutIn, PartedIn, writeIn, testsIn, writesIn}
+use Rattle.rules.specs.Sizes.{cutSize, finalSize, sizeAll}
+use Rattle.format.specs.Layout.{dataOf, usedLength, nodeOf, enablerOf}
+use Rattle.octets.specs.Lists.{every, maybe}
+use Rattle.rules.specs.Writing.{grow, rewritten, placed, writesResolve}
+use Rattle.format.specs.Parts.{partsOf, used, Parts, encode, extras}
+use Rattle.replies.specs.Pieces.{piecesIn, measuredOf}
+use Rattle.writes.specs.Rewrite.{Final}
+use Rattle.rules.specs.Testing.{replyOf, resolves, testPiece, holds, position}
+use Rattle.container.proofs.KnownLaws.{size-is}
+use Rattle.rules.proofs.Kept.{after-valid}
+use Rattle.format.proofs.ViewLaws.{leases-extras}
+use Rattle.rules.proofs.WriteLaws.{length-cutTo, length-writeAll}
+use Rattle.rules.proofs.OutcomeLaws.{outcome-formed}
+use Rattle.octets.specs.Strings.{same}
+use Rattle.replies.proofs.PieceLaws.{test-pieces, test-resolve}
+use Rattle.requests.specs.Cursors.{bodyOf}
+use Rattle.octets.specs.Numbers.{number}
+use Rattle.format.proofs.RoundTrip.{parts-valid}
+use Rattle.requests.proofs.CursorLaws.{position-below}
+use Rattle.writes.specs.Sizes.{reachedBy}
+use Rattle.rules.proofs.RequestLaws.{tests}
 
 -- ---- the size that the writes reach
 grow-bound : (n at k : ℕ) → grow n at k ≤ max n (at + k)
@@ -57,112 +52,149 @@ unfolding grow
 grow-bound n at zero = omega arith
 grow-bound n at (suc k) = omega arith
 
-reach-bound : (n p b : ℕ) (q : List ℕ) (size : ℕ) → sizeAll (placed (writesFrom n p b q) size) size ≤ max size (2147483648 + length q)
+reach-bound : (n p b : ℕ) (q : List ℕ) (size : ℕ)
+    → sizeAll (placed (writesFrom n p b q) size) size ≤ max size (2147483648 + length q)
 unfolding sizeAll placed writesFrom
 reach-bound zero p b q size = omega arith
 reach-bound (suc n) p b q size =
     let k : ℕ = length (take (entryCount p q) (drop b q)) in
     let l : k ≤ length q = simp (length-take, length-drop) (omega arith) in
-    omega (arith, position-below p q size, grow-bound size (position (entryOffset p q) size) k, reach-bound n (p + 8) (b + entryCount p q) q (grow size (position (entryOffset p q) size) k))
+    let g : ℕ = grow size (position (entryOffset p q) size) k in
+    omega (
+      arith,
+      position-below p q size,
+      grow-bound size (position (entryOffset p q) size) k,
+      reach-bound n (p + entrySize) (b + entryCount p q) q g,
+    )
 
 cut-bound : (cut : Option ℕ) (n : ℕ) → cutSize cut n ≤ n
 unfolding cutSize
 cut-bound none n = omega arith
 cut-bound (some m) n = omega arith
 
--- ---- the cut, and the lengths after it
-cut-is : (flag new : ℕ) → writes.cutBy (not (eqb flag 0)) new ≡ cutOf flag new
-unfolding cutOf
-cut-is flag new = go (eqb flag 0)
-  where
-    go : (b : Bool) → writes.cutBy (not b) new ≡ cond b none (some new)
-    go true = refl
-    go false = refl
-
-length-rewritten : (ws : List Write) (cut : Option ℕ) (d : List ℕ) → length (rewritten ws cut d) ≡ finalSize ws cut (length d)
+-- ---- the lengths after the cut
+length-rewritten : (ws : List Write) (cut : Option ℕ) (d : List ℕ)
+    → length (rewritten ws cut d) ≡ finalSize ws cut (length d)
 unfolding rewritten finalSize
 length-rewritten ws cut d = length-cutTo cut _ ∙ rw length-writeAll
 
--- The size of the data, and the used length, after a test-and-write.
-abbrev finalOf : List ℕ → ℕ → ℕ
-finalOf q size = finalSize (writesFrom (writeCount q) (writesAt q) (newDataAt q) q) (cutOf (cutFlag q) (newLength q)) size
+after-size : (p : Parts) (q : List ℕ) (t : Parted)
+    → length (after p (writeIn t q) .bytes) ≡ finalSize (writesIn t q) (cutIn (t .cut)) (length (p .bytes))
+unfolding after withBytes
+after-size p q t = length-rewritten (writesIn t q) (cutIn (t .cut)) (p .bytes)
 
-used-after : (c q : List ℕ) → used (after (partsOf c) (testWriteOf q)) ≡ 472 + finalOf q (length (dataOf c)) + 92 * extrasOf c
-unfolding after testWriteOf used extras withBytes partsOf
-used-after c q =
-    let k : 4 + extrasOf c - 4 ≡ extrasOf c = omega arith in
-    rw (length-leases c, k, length-rewritten) (used-is (finalOf q (length (dataOf c))) (extrasOf c))
-
--- The five rows that it can meet.
-rows-are : (p : Parts) (q : List ℕ) (n : ℕ) → rows p (testWriteOf q) n ++ roomRows p (testWriteOf q)
-    ≡ row 4 (not (resolved p (testWriteOf q)))
-    ∷ (row 5 (not (same (take 32 (drop 8 q)) (p .enabler)))
-    ∷ (row 7 (ltb n (length (replyTo p (testWriteOf q))))
-    ∷ (row 8 (not (every (holds (p .bytes)) (testsFrom (testCount q) testsAt (specimensAt q) q)))
-    ∷ (row 11 (ltb (p .room) (used (after p (testWriteOf q)))) ∷ []))))
-unfolding rows roomRows testWriteOf
-rows-are p q n = refl
-
--- The reply, as the code writes it.
-reply-read : (c : List ℕ) {q d : List ℕ} {t : Table} → WriteRequest q t → d ≡ dataOf c → replyTo (partsOf c) (testWriteOf q) ≡ replyOf (piecesFrom 12 (t .tests) 40 q d)
-unfolding replyTo testWriteOf partsOf
-reply-read c W e = rw (e, W .table, test-pieces)
+after-used : (p : Parts) (q : List ℕ) (t : Parted)
+    → used (after p (writeIn t q)) ≡ usedLength (length (after p (writeIn t q) .bytes)) (extras (p .leases))
+unfolding used after withBytes
+after-used p q t = refl
 
 -- ---- the verdict by what the code finds
--- What is measured first: d, the data as the code takes it; x, what the writes reach; n, the reply's length; f, the final size.
-pub record Measured (c q d : List ℕ) (size extras : ℕ) (t : Table) (x : Reached) (n f : ℕ) : Type 0 where
-  pub known : Known c size extras
-  pub request : WriteRequest q t
+-- What is measured first: d, the data as the code takes it; m, what the tests ask; x, what the writes reach; s, the final size.
+pub record Found (c q d : List ℕ) (f : Frame) (t : Parted) (m : Measured) (x : Reached) (s : ℕ) : Type 0 where
+  pub known : Known c f
+  pub parted : PartedIn q t
   pub bytes : d ≡ dataOf c
-  pub reached : x ≡ writes.reachedBy (writesFrom (t .writes) (40 + 12 * t .tests) (t .bodies) q) size
-  pub reply : n ≡ length (replyOf (piecesFrom 12 (t .tests) 40 q d))
-  pub final : f ≡ cutSize (writes.cutBy (t .cut) (t .new)) (x .size)
+  pub measured : m ≡ measuredOf (t .tests) q d
+  pub reached : x ≡ reachedBy (writesIn t q) (f .size)
+  pub final : s ≡ cutSize (cutIn (t .cut)) (x .size)
 
-module _ {c q d : List ℕ} {size extras : ℕ} {t : Table} {x : Reached} {n f : ℕ} (M : Measured c q d size extras t x n f) where
-  size-is : length (dataOf c) ≡ size
-  size-is = data-length c (M .known .formed) ∙ sym (M .known .size-is)
+module _ {c q d : List ℕ} {f : Frame} {t : Parted} {m : Measured} {x : Reached} {s : ℕ} (F : Found c q d f t m x s) where
+  abbrev asks : Request
+  asks = writeIn t q
 
-  final-is : finalOf q (length (dataOf c)) ≡ f
-  unfolding finalSize writesAt
-  final-is = sym (M .final ∙ rw (M .reached, M .request .table, cut-is, size-is))
+  final-is : length (after (partsOf c) asks .bytes) ≡ s
+  unfolding finalSize partsOf
+  final-is = after-size (partsOf c) q t ∙ rw (size-is (F .known)) (sym (F .final ∙ rw (F .reached)))
 
-  reply-is : length (replyTo (partsOf c) (testWriteOf q)) ≡ n
-  reply-is = ap length (reply-read c (M .request) (M .bytes)) ∙ sym (M .reply)
+  pieces-are : piecesIn (t .tests) q d ≡ map (testPiece (dataOf c)) (testsIn t q)
+  pieces-are =
+      rw (F .bytes, F .parted .tests-stride)
+      (sym (test-pieces (t .tests .count) (t .tests .first .at) (t .specimens .at) q (dataOf c)))
 
-  resolved-is : resolved (partsOf c) (testWriteOf q) ≡ (resolveFrom 12 (t .tests) 40 q (length d) && x .resolves)
-  unfolding resolved testWriteOf partsOf writesAt
-  resolved-is = rw (M .bytes, size-is, M .reached, M .request .table, test-resolve (testCount q) 40 (specimensAt q) q size)
+  reply-is : length (replyTo (partsOf c) asks) ≡ m .length
+  unfolding replyTo partsOf
+  reply-is = sym (ap (λ (y : Measured). y .length) (F .measured) ∙ rw pieces-are)
 
-  hold-is : every (holds (dataOf c)) (testsFrom (testCount q) testsAt (specimensAt q) q) ≡ every (holds d) (testsFrom (t .tests) 40 (t .specimens) q)
-  hold-is = rw (M .bytes, M .request .table)
+  resolves-is : (every (λ u. resolves (u .offset) (length (dataOf c))) (testsIn t q)
+      && writesResolve (writesIn t q) (length (dataOf c))) ≡ (m .resolves && x .resolves)
+  resolves-is =
+      rw (size-is (F .known), F .measured, F .reached, F .bytes, F .parted .tests-stride, size-is (F .known))
+      (ap (λ (b : Bool). b && writesResolve (writesIn t q) (f .size))
+      (test-resolve (t .tests .count) (t .tests .first .at) (t .specimens .at) q (f .size)))
 
-  used-is-now : used (after (partsOf c) (testWriteOf q)) ≡ 472 + f + 92 * extras
-  used-is-now = used-after c q ∙ rw (final-is, M .known .extras-is)
+  used-after : used (after (partsOf c) asks) ≡ usedLength s (f .extras)
+  unfolding partsOf
+  used-after = after-used (partsOf c) q t ∙ rw (final-is, leases-extras c, ← F .known .extras-is)
 
-  pub final-bound : (f ≤ x .size) × (x .size ≤ size + 2147483648 + length q)
+  pub final-bound : (s ≤ x .size) × (x .size ≤ f .size + 2147483648 + length q)
   final-bound = (
-    omega (arith, M .final, cut-bound (writes.cutBy (t .cut) (t .new)) (x .size)),
-    omega (arith, ap (λ (y : Reached). y .size) (M .reached), reach-bound (t .writes) (40 + 12 * t .tests) (t .bodies) q size),
+    omega (arith, F .final, cut-bound (cutIn (t .cut)) (x .size)),
+    omega (
+      arith,
+      ap (λ (y : Reached). y .size) (F .reached),
+      reach-bound (t .writes .count) (t .writes .first .at) (t .bodies .at) q (f .size),
+    ),
   )
 
-  pub judged : (k space : ℕ) → k ≡ firstRow c d q t (x .resolves) n space (472 + f + 92 * extras) → record { number = k; reply = n; size = f } ≡ verdictOf (partsOf c) q space
-  unfolding verdictOf firstRow partsOf
-  judged k space e = sym (rw (rows-are (partsOf c) q space, resolved-is, reply-is, hold-is, used-is-now, final-is, e))
+  -- The three groups of rows, as the code judges them.
+  module _ (space : ℕ) where
+    abbrev pub admits : List Row
+    admits = row 4 (not (m .resolves && x .resolves)) ∷ row 5 (not (same (bodyOf (t .enabler) q) (enablerOf c))) ∷ []
+
+    abbrev pub finds : List Row
+    finds = row 7 (ltb space (m .length)) ∷ row 8 (not (every (holds d) (testsIn t q))) ∷ []
+
+    abbrev pub fits : List Row
+    fits = row 11 (ltb (length c) (usedLength s (f .extras))) ∷ []
+
+    rows-are : rows (partsOf c) asks space ++ roomRows (partsOf c) asks ≡ (admits ++ finds) ++ fits
+    unfolding rows admitRows findRows roomRows partsOf
+    rows-are = rw (resolves-is, reply-is, used-after, F .bytes)
+
+    verdict-is : (k : ℕ) → k ≡ firstRow ((admits ++ finds) ++ fits)
+        → record { number = k; reply = m .length; size = s } ≡ verdictOf (partsOf c) asks space
+    unfolding verdictOf
+    verdict-is k e = sym (rw (rows-are, reply-is, final-is, e))
+
+    admits-numbered : Numbered admits
+    admits-numbered = (omega arith, (omega arith, tt))
+
+    both-numbered : Numbered (admits ++ finds)
+    both-numbered = (omega arith, (omega arith, (omega arith, (omega arith, tt))))
+
+    pub admit-verdict : (k : ℕ) → k ≡ firstRow admits → (k ≡ 0 → ⊥)
+        → record { number = k; reply = m .length; size = s } ≡ verdictOf (partsOf c) asks space
+    admit-verdict k e h =
+        let a : firstRow (admits ++ finds) ≡ k = rows-first admits finds admits-numbered (λ z. h (e ∙ z)) ∙ sym e in
+        verdict-is k (sym (rows-first (admits ++ finds) fits both-numbered (λ z. h (sym a ∙ z)) ∙ a))
+
+    module _ (j : ℕ) (i : j ≡ firstRow admits) (z : j ≡ 0) where
+      after-admit : firstRow (admits ++ finds) ≡ firstRow finds
+      after-admit = rows-second admits finds admits-numbered (sym i ∙ z)
+
+      pub find-verdict : (k : ℕ) → k ≡ firstRow finds → (k ≡ 0 → ⊥)
+          → record { number = k; reply = m .length; size = s } ≡ verdictOf (partsOf c) asks space
+      find-verdict k e h =
+          let a : firstRow (admits ++ finds) ≡ k = after-admit ∙ sym e in
+          verdict-is k (sym (rows-first (admits ++ finds) fits both-numbered (λ y. h (sym a ∙ y)) ∙ a))
+
+      pub fit-verdict : (l k : ℕ) → l ≡ firstRow finds → l ≡ 0 → k ≡ firstRow fits
+          → record { number = k; reply = m .length; size = s } ≡ verdictOf (partsOf c) asks space
+      fit-verdict l k e h g =
+          verdict-is k
+          (sym (rows-second (admits ++ finds) fits both-numbered (after-admit ∙ sym e ∙ h) ∙ sym g))
 
 -- ---- what follows from the number
-short-no : (a b : Bool) (n m : ℕ) (rs : List Row) → replies (lowest (row 4 a ∷ (row 5 b ∷ (row 7 (ltb n m) ∷ rs)))) ≡ true → m ≤ n
-unfolding lowest replies
+short-no : (a b : Bool) (n m : ℕ) (rs : List Row)
+    → replies (firstRow (row 4 a ∷ row 5 b ∷ row 7 (ltb n m) ∷ rs)) ≡ true → m ≤ n
+unfolding firstRow replies
 short-no true b n m rs e = absurd (false≢true e)
 short-no false true n m rs e = absurd (false≢true e)
 short-no false false n m rs e = go (ltb n m) refl e
   where
-    go : (t : Bool) → ltb n m ≡ t → replies (cond t 7 (lowest rs)) ≡ true → m ≤ n
+    go : (t : Bool) → ltb n m ≡ t → replies (cond t 7 (firstRow rs)) ≡ true → m ≤ n
     go true p e = absurd (false≢true e)
     go false p e = ltb-false n m p
-
-counted-is : (p : Parts) (q : List ℕ) (n : ℕ) → verdictOf p q n .reply ≡ counted p (testWriteOf q)
-unfolding verdictOf counted testWriteOf
-counted-is p q n = refl
 
 refused-writes : (k : ℕ) → replies k ≡ false → eqb k 0 ≡ false
 unfolding replies
@@ -172,16 +204,51 @@ refused-writes k = go (eqb k 0)
     go true e = e
     go false e = refl
 
--- A request whose verdict v is known, beside the reply space r.
-pub record Decided (c q r : List ℕ) (size extras : ℕ) (t : Table) (v : Verdict) : Type 0 where
-  pub known : Known c size extras
-  pub request : WriteRequest q t
-  pub verdict : v ≡ verdictOf (partsOf c) q (length r)
+-- ---- a verdict that is known
+module _ {c q : List ℕ} {f : Frame} {t : Parted} {v : Verdict} (D : Decided c q f t v) where
+  number-decided : v .number
+      ≡ firstRow (rows (partsOf c) (writeIn t q) (D .space) ++ roomRows (partsOf c) (writeIn t q))
+  unfolding verdictOf
+  number-decided = ap (λ (x : Verdict). x .number) (D .verdict)
 
-module _ {c q r : List ℕ} {size extras : ℕ} {t : Table} {v : Verdict} (G : Decided c q r size extras t v) where
+  size-decided : v .size ≡ length (after (partsOf c) (writeIn t q) .bytes)
+  unfolding verdictOf
+  size-decided = ap (λ (x : Verdict). x .size) (D .verdict)
+
+  used-decided : used (after (partsOf c) (writeIn t q)) ≡ usedLength (v .size) (f .extras)
+  unfolding partsOf
+  used-decided = after-used (partsOf c) q t ∙ rw (leases-extras c, ← D .known .extras-is, ← size-decided)
+
+  fits-decided : v .number ≡ 0 → used (after (partsOf c) (writeIn t q)) ≤ length c
+  unfolding after withBytes partsOf
+  fits-decided e =
+      after-valid (partsOf c) (writeIn t q) (D .space) (parts-valid c (D .known .formed)) tt (sym number-decided ∙ e) .fits
+
+  -- A verdict of 0 has room for the final size.
+  pub room : v .number ≡ 0 → Final q t f (v .size) (length c)
+  unfolding partsOf
+  room e = record {
+    size = size-decided ∙ after-size (partsOf c) q t ∙ rw (size-is (D .known));
+    fits = rw used-decided at (fits-decided e);
+  }
+
+-- ---- a request whose verdict v is known, beside the reply space r
+pub record Writing (c q r : List ℕ) (f : Frame) (t : Parted) (v : Verdict) : Type 0 where
+  pub known : Known c f
+  pub request : WriteRequest q t
+  pub verdict : v ≡ verdictOf (partsOf c) (writeIn t q) (length r)
+
+module _ {c q r : List ℕ} {f : Frame} {t : Parted} {v : Verdict} (G : Writing c q r f t v) where
+  pub decided : Decided c q f t v
+  decided = record { known = G .known; parted = G .request .parted; space = length r; verdict = G .verdict }
+
   number-is : outcome c q (length r) ≡ v .number
   unfolding requestRows verdictOf
   number-is = outcome-formed c q (length r) (G .known .formed) ∙ rw (G .request .is, G .verdict)
+
+  reply-counted : v .reply ≡ counted (partsOf c) (writeIn t q)
+  unfolding verdictOf counted
+  reply-counted = ap (λ (x : Verdict). x .reply) (G .verdict)
 
   -- What has to be shown of an answer, a container and a reply space afterwards.
   abbrev Results : Answer → List ℕ → List ℕ → Type 0
@@ -190,20 +257,26 @@ module _ {c q r : List ℕ} {size extras : ℕ} {t : Table} {v : Verdict} (G : D
   -- A refused request writes nothing, and only 5 names the node.
   refused : (k : ℕ) → v .number ≡ k → replies k ≡ false → Results (answerOf k (cond (eqb k 5) (nodeOf c) noNode) 0) c r
   unfolding answered containerAfter replyAfter answerTo partsOf
-  refused k e z = (rw (number-is, e, G .request .is, z), (rw (number-is, e, refused-writes k z), rw (number-is, e, z)))
+  refused k e z =
+      (rw (number-is, e, G .request .is, z), (rw (number-is, e, refused-writes k z), rw (number-is, e, z)))
 
   pub differs : v .number ≡ 5 → {x : Answer} → x ≡ answerOf 5 (nodeOf c) 0 → Results x c r
   unfolding replies
   differs e i = rw i (refused 5 e refl)
 
-  pub other : (v .number ≡ 5 → ⊥) → replies (v .number) ≡ false → {x : Answer} → x ≡ answerOf (v .number) noNode 0 → Results x c r
+  pub other : (v .number ≡ 5 → ⊥) → replies (v .number) ≡ false → {x : Answer} → x ≡ answerOf (v .number) noNode 0
+      → Results x c r
   other h z i = rw i (rw (ne-eqb (v .number) 5 h) at (refused (v .number) refl z))
 
   -- On 0 and 8 the reply is written.
   replied : (k : ℕ) → v .number ≡ k → replies k ≡ true
-      → Results (answerOf k (cond (eqb k 5) (nodeOf c) noNode) (v .reply)) (cond (eqb k 0) (encode (after (partsOf c) (testWriteOf q))) c) (put 0 (replyTo (partsOf c) (testWriteOf q)) r)
-  unfolding answered containerAfter replyAfter answerTo afterOf replyBytes partsOf
-  replied k e z = (rw (number-is, e, G .request .is, z, G .verdict, counted-is), (rw (number-is, e, G .request .is), rw (number-is, e, z, G .request .is)))
+      → Results (answerOf k (cond (eqb k 5) (nodeOf c) noNode) (v .reply))
+      (cond (eqb k 0) (encode (after (partsOf c) (writeIn t q))) c) (put 0 (replyTo (partsOf c) (writeIn t q)) r)
+  unfolding answered containerAfter replyAfter answerTo afterOf replyBytes maybe partsOf
+  replied k e z = (
+    rw (number-is, e, G .request .is, z, reply-counted),
+    (rw (number-is, e, G .request .is), rw (number-is, e, z, G .request .is)),
+  )
 
   -- The number is 0 or 8, and not 8.
   pub accepted : replies (v .number) ≡ true → (v .number ≡ 8 → ⊥) → v .number ≡ 0
@@ -214,33 +287,31 @@ module _ {c q r : List ℕ} {size extras : ℕ} {t : Table} {v : Verdict} (G : D
       go true p e = eqb-true (v .number) 0 p
       go false p e = absurd (false≢true e)
 
-  pub room : v .number ≡ 0 → usedLength (v .size) extras ≤ length c
-  unfolding verdictOf partsOf testWriteOf after withBytes
-  room e =
-      let h : used (after (partsOf c) (testWriteOf q)) ≤ length c =
-      after-valid (partsOf c) (testWriteOf q) (length r) (parts-valid c (G .known .formed)) tt (sym (ap (λ (x : Verdict). x .number) (G .verdict)) ∙ e) .fits in
-      let s : v .size ≡ finalOf q (length (dataOf c)) = ap (λ (x : Verdict). x .size) (G .verdict) in
-      omega (arith, used-after c q, used-is (v .size) extras, G .known .extras-is)
-
   -- d is the data as the code takes it.
   module _ {d : List ℕ} (D : d ≡ dataOf c) where
-    pub reply-fits : replies (v .number) ≡ true → length (replyOf (piecesFrom 12 (t .tests) 40 q d)) ≤ length r
+    reply-read : replyOf (piecesIn (t .tests) q d) ≡ replyTo (partsOf c) (writeIn t q)
+    unfolding replyTo partsOf
+    reply-read =
+        rw (D, G .request .parted .tests-stride)
+        (ap replyOf (sym (test-pieces (t .tests .count) (t .tests .first .at) (t .specimens .at) q (dataOf c))))
+
+    number-rows : v .number ≡ firstRow (rows (partsOf c) (writeIn t q) (length r) ++ roomRows (partsOf c) (writeIn t q))
     unfolding verdictOf
-    reply-fits e = rw (reply-read c (G .request) D) at (short-no _ _ (length r) (length (replyTo (partsOf c) (testWriteOf q))) _ (rw (G .verdict, rows-are (partsOf c) q (length r)) at e))
+    number-rows = ap (λ (x : Verdict). x .number) (G .verdict)
+
+    pub reply-fits : replies (v .number) ≡ true → length (replyOf (piecesIn (t .tests) q d)) ≤ length r
+    unfolding rows admitRows findRows
+    reply-fits e =
+        rw reply-read (short-no _ _ (length r) (length (replyTo (partsOf c) (writeIn t q))) _ (rw number-rows at e))
 
     -- A false test: the reply alone is written.
-    pub failed : v .number ≡ 8 → {x : Answer} {s : List ℕ} → x ≡ answerOf 8 noNode (v .reply) → s ≡ put 0 (replyOf (piecesFrom 12 (t .tests) 40 q d)) r → Results x c s
+    pub failed : v .number ≡ 8 → {x : Answer} {s : List ℕ} → x ≡ answerOf 8 noNode (v .reply)
+        → s ≡ put 0 (replyOf (piecesIn (t .tests) q d)) r → Results x c s
     unfolding replies
-    failed e i j = rw (i, j, ← reply-read c (G .request) D) (replied 8 e refl)
+    failed e i j = rw (i, j, reply-read) (replied 8 e refl)
 
     -- Done: e is what the rewriting made of the container.
     pub done : v .number ≡ 0 → {x : Answer} {e s : List ℕ} → x ≡ answerOf 0 noNode (v .reply)
-        → ((cut : Option ℕ) → v .size ≡ finalSize (writesFrom (t .writes) (40 + 12 * t .tests) (t .bodies) q) cut size
-        → e ≡ encode (withBytes (partsOf c) (rewritten (writesFrom (t .writes) (40 + 12 * t .tests) (t .bodies) q) cut (dataOf c))))
-        → s ≡ put 0 (replyOf (piecesFrom 12 (t .tests) 40 q d)) r → Results x e s
-    unfolding replies verdictOf testWriteOf after partsOf writesAt
-    done z i h j =
-        let w = replied 0 z refl in
-        let g : v .size ≡ finalSize (writesFrom (t .writes) (40 + 12 * t .tests) (t .bodies) q) (cutOf (cutFlag q) (newLength q)) size =
-        ap (λ (x : Verdict). x .size) (G .verdict) ∙ rw (G .request .table, data-length c (G .known .formed), G .known .size-is) in
-        (i ∙ w .0, (h (cutOf (cutFlag q) (newLength q)) g ∙ rw (G .request .table) (w .1 .0), j ∙ rw (← reply-read c (G .request) D) (w .1 .1)))
+        → e ≡ encode (after (partsOf c) (writeIn t q)) → s ≡ put 0 (replyOf (piecesIn (t .tests) q d)) r → Results x e s
+    unfolding replies
+    done z i h j = rw (i, h, j, reply-read) (replied 0 z refl)

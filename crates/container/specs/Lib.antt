@@ -1,3 +1,4 @@
 -- What the operations' contracts cite beside the rules.
-pub mod Forms
-pub mod Verdicts
+pub mod Data
+pub mod Reading
+pub mod Writing

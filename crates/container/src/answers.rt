@@ -2,8 +2,11 @@
 ghost use mathlib.Core.Path.{_≡_};
 ghost use Prim.Native.Nat.{_≤_};
 ghost use lib.ListN.{length};
-ghost use Rattle.format.specs.Container.{nodeOf};
+ghost use Rattle.format.specs.Layout.{least, nodeOf};
 ghost use Rattle.rules.specs.Outcomes.{answerOf, noNode};
+use format::layout::ENABLER_AT;
+use format::layout::NODE_AT;
+use format::layout::NODE_SIZE;
 use rules::Answer;
 
 // A number with a count, and no node id.
@@ -12,18 +15,18 @@ pub(crate) fn answer(number: u32, count: usize) -> Answer
 {
     Answer {
         number: number,
-        node: [0; 20],
+        node: [0; NODE_SIZE],
         count: count as u64,
     }
 }
 
 // Outcome 5 names the node that accepted the write enabler.
 pub(crate) fn enabler_differs(c: &[u8]) -> Answer
-    requires { ⌜ 472 ≤ length (now c) ⌝ }
+    requires { ⌜ least ≤ length (now c) ⌝ }
     ensures { λ r. ⌜ r ≡ answerOf 5 (nodeOf (now (c .entry))) 0 ⌝ }
 {
-    let mut node = [0; 20];
-    octets::moves::copy(&mut node, &c[32..52]);
+    let mut node = [0; NODE_SIZE];
+    octets::moves::copy(&mut node, &c[NODE_AT..ENABLER_AT]);
     Answer {
         number: 5,
         node: node,

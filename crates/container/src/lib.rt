@@ -1,7 +1,8 @@
-// One container in a lent buffer: create it, and apply requests to it. Nobody who calls is trusted to have checked anything.
-pub mod answers;
+// One container in a lent buffer: create it, apply requests to it, and lend its data. Nobody who calls is trusted to have
+// checked anything.
+mod answers;
 pub mod creation;
-pub mod leasing;
-pub mod reading;
+pub mod data;
+mod reading;
 pub mod requesting;
 pub mod writing;

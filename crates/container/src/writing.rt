@@ -1,16 +1,29 @@
-// Kind 1 on a well-formed container. Everything is judged before anything is written: sizes first, then room, then the reply
-// and the writes.
+// Kind 1 on a well-formed container: judged whole before anything is written, then carried out.
 ghost use mathlib.Core.Path.{_≡_};
+ghost use mathlib.Core.Bool.{not};
+ghost use mathlib.Core.List.{[], _∷_};
 ghost use Prim.Native.Nat.{_≤_};
+ghost use lib.Dec.{ltb};
 ghost use lib.ListN.{length};
-ghost use Rattle.format.specs.Known.{Known};
-ghost use Rattle.format.specs.Parts.{partsOf};
-ghost use Rattle.rules.specs.Outcomes.{replies, answered, containerAfter, replyAfter};
-ghost use Rattle.container.specs.Forms.{WriteRequest};
-ghost use Rattle.container.specs.Verdicts.{firstRow, verdictOf};
+ghost use Rattle.octets.specs.Lists.{every};
+ghost use Rattle.octets.specs.Rows.{row, firstRow};
+ghost use Rattle.octets.specs.Strings.{same};
+ghost use Rattle.format.specs.Layout.{least, secretSize, enablerOf};
+ghost use Rattle.format.specs.Parts.{partsOf, encode};
+ghost use Rattle.format.specs.Judging.{Known};
+ghost use Rattle.rules.specs.Testing.{holds};
+ghost use Rattle.rules.specs.Outcomes.{after, replies, answered, containerAfter, replyAfter};
+ghost use Rattle.requests.specs.Cursors.{bodyOf};
+ghost use Rattle.requests.specs.Forms.{BodyIn, PartedIn, testsIn, writeIn};
+ghost use Rattle.container.specs.Writing.{WriteRequest, verdictOf, Decided};
 use crate::answers::answer;
 use crate::answers::enabler_differs;
-use requests::forms::Table;
+use format::layout::DATA_AT;
+use format::layout::ENABLER_AT;
+use format::layout::Frame;
+use format::layout::SIZE_AT;
+use requests::cursors::Body;
+use requests::forms::Parted;
 use rules::Answer;
 
 // The outcome's number, the reply's length and the final size of the data.
@@ -20,58 +33,88 @@ pub struct Verdict {
     pub size: usize,
 }
 
-// The number of the first row that applies: `resolves` is said of the writes, and `need` is the used length afterwards.
-fn first_row(
-    c: &[u8],
-    d: &[u8],
-    q: &[u8],
-    t: Table,
-    resolves: bool,
-    reply: usize,
-    space: usize,
-    need: usize,
-) -> u32
-    requires { ⌜ (84 ≤ length (now c)) × WriteRequest (now q) t ⌝ }
-    ensures { λ r. ⌜ r ≡ firstRow (now (c .entry)) (now (d .entry)) (now (q .entry)) t resolves reply space need ⌝ }
+// Rows 4 and 5, where it is known whether every offset resolves.
+fn admit(c: &[u8], q: &[u8], enabler: Body, resolves: bool) -> u32
+    requires { ⌜ (least ≤ length (now c)) × BodyIn (now q) enabler secretSize ⌝ }
+    ensures { λ r. ⌜ r ≡ firstRow (row 4 (not resolves)
+        ∷ row 5 (not (same (bodyOf enabler (now (q .entry))) (enablerOf (now (c .entry))))) ∷ []) ⌝ }
 {
-    let tests = t.tests;
-    if !replies::pieces::all_resolve(q, 40, tests, 12, d.len()) {
-        return 4;
-    }
     if !resolves {
         return 4;
     }
-    if !octets::strings::same(&q[8..40], &c[52..84]) {
+    if !octets::strings::same(enabler.bytes(q), &c[ENABLER_AT..SIZE_AT]) {
         return 5;
     }
+    0
+}
+
+// Rows 7 and 8, for a reply of some length.
+fn find(d: &[u8], q: &[u8], t: Parted, reply: usize, space: usize) -> u32
+    requires { ⌜ PartedIn (now q) t ⌝ }
+    ensures { λ r. ⌜ r ≡ firstRow (row 7 (ltb space reply)
+        ∷ row 8 (not (every (holds (now (d .entry))) (testsIn t (now (q .entry))))) ∷ []) ⌝ }
+{
     if space < reply {
         return 7;
     }
-    if !replies::tests::all_hold(d, q, 40, tests, t.specimens) {
+    if !replies::tests::all_hold(d, q, t) {
         return 8;
     }
-    if c.len() < need {
+    0
+}
+
+// Row 11.
+fn fit(room: usize, used: usize) -> u32
+    ensures { λ r. ⌜ r ≡ firstRow (row 11 (ltb room used) ∷ []) ⌝ }
+{
+    if room < used {
         return 11;
     }
     0
 }
 
-// The room is judged on the final size: the size on the way to the cut is never materialised.
-fn judge(c: &[u8], size: usize, extras: usize, q: &[u8], t: Table, space: usize) -> Verdict
-    requires { ⌜ Known (now c) size extras × WriteRequest (now q) t ⌝ }
-    ensures { λ r. ⌜ r ≡ verdictOf (partsOf (now (c .entry))) (now (q .entry)) space ⌝ }
+// The verdict. The room is judged on the final size: a size on the way to the cut is a number, never bytes.
+pub fn judge(c: &[u8], frame: Frame, q: &[u8], t: Parted, space: usize) -> Verdict
+    requires { ⌜ Known (now c) frame × PartedIn (now q) t ⌝ }
+    ensures { λ r. ⌜ r ≡ verdictOf (partsOf (now (c .entry))) (writeIn t (now (q .entry))) space ⌝ }
 {
-    let d = &c[468..468 + size];
-    let reached = writes::sizes::reach(q, 40 + 12 * t.tests, t.writes, t.bodies, size);
-    let on_the_way = reached.size;
-    let after = writes::sizes::cut_size(on_the_way, t.cut, t.new);
-    let reply = replies::pieces::reply_length(d, q, 40, t.tests, 12);
-    let need = 472 + after + 92 * extras;
-    Verdict {
-        number: first_row(c, d, q, t, reached.resolves, reply, space, need),
-        reply: reply,
-        size: after,
+    let e = frame.data_end();
+    let d = &c[DATA_AT..e];
+    let asked = replies::pieces::measure(d, q, t.tests);
+    let reply = asked.length;
+    let reached = writes::sizes::reach(q, t, frame.size);
+    let size = writes::sizes::cut_size(reached.size, t.cut);
+    let resolves = octets::choices::both(asked.resolves, reached.resolves);
+    let admitted = admit(c, q, t.enabler, resolves);
+    if admitted != 0 {
+        return Verdict {
+            number: admitted,
+            reply: reply,
+            size: size,
+        };
     }
+    let found = find(d, q, t, reply, space);
+    if found != 0 {
+        return Verdict {
+            number: found,
+            reply: reply,
+            size: size,
+        };
+    }
+    let after = frame.resized(size);
+    Verdict {
+        number: fit(c.len(), after.used()),
+        reply: reply,
+        size: size,
+    }
+}
+
+// What a verdict of 0 makes of the container.
+pub fn commit(c: &mut [u8], frame: Frame, q: &[u8], t: Parted, v: Verdict)
+    requires { ⌜ Decided (now c) (now q) frame t v × (v .number ≡ 0) ⌝ }
+    ensures { λ _. ⌜ now (c .exit) ≡ encode (after (partsOf (now (c .entry))) (writeIn t (now (q .entry)))) ⌝ }
+{
+    writes::rewrite::rewrite(c, frame, q, t, v.size);
 }
 
 // A reply is written on 0 and 8 only.
@@ -86,39 +129,29 @@ fn reports(number: u32) -> bool
 
 pub(crate) fn test_and_write(
     c: &mut [u8],
-    size: usize,
-    extras: usize,
+    frame: Frame,
     q: &[u8],
-    t: Table,
+    t: Parted,
     r: &mut [u8],
 ) -> Answer
-    requires { ⌜ Known (now c) size extras × WriteRequest (now q) t ⌝ }
+    requires { ⌜ Known (now c) frame × WriteRequest (now q) t ⌝ }
     ensures { λ x. ⌜ x ≡ answered (now (c .entry)) (now (q .entry)) (now (r .entry)) ⌝ }
     ensures { λ _. ⌜ now (c .exit) ≡ containerAfter (now (c .entry)) (now (q .entry)) (now (r .entry)) ⌝ }
     ensures { λ _. ⌜ now (r .exit) ≡ replyAfter (now (c .entry)) (now (q .entry)) (now (r .entry)) ⌝ }
 {
-    let verdict = judge(c, size, extras, q, t, r.len());
+    let verdict = judge(c, frame, q, t, r.len());
     let number = verdict.number;
-    let after = verdict.size;
     if number == 5 {
         return enabler_differs(c);
     }
     if !reports(number) {
         return answer(number, 0);
     }
-    replies::reply::write_reply(&c[468..468 + size], q, 40, t.tests, 12, r);
+    let to = frame.data_end();
+    replies::reply::write_reply(&c[DATA_AT..to], q, t.tests, r);
     if number == 8 {
         return answer(8, verdict.reply);
     }
-    writes::rewrite::rewrite(
-        c,
-        size,
-        extras,
-        q,
-        40 + 12 * t.tests,
-        t.writes,
-        t.bodies,
-        after,
-    );
+    commit(c, frame, q, t, verdict);
     answer(0, verdict.reply)
 }

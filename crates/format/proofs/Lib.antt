@@ -1,4 +1,7 @@
--- Laws of the container: what well-formedness says, the round trip between bytes and parts, and what judging a buffer answers.
+-- Laws of the container: what well-formedness says, the round trip between bytes and parts, what judging a buffer
+-- answers, and the view of the bytes that changes go by.
 pub mod WellFormed
 pub mod RoundTrip
-pub mod JudgedLaws
+pub mod JudgingLaws
+pub mod ViewLaws
+pub mod Claims

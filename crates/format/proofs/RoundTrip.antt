@@ -1,7 +1,7 @@
 -- The round trip: a well-formed container is the encoding of its parts, and valid parts are those of their encoding. Assumes nothing.
 use mathlib.Core.Path.{_≡_, refl, sym, ap, _∙_}
 use mathlib.Core.Bool.{true}
-use mathlib.Core.List.{List, [], _∷_, _++_}
+use mathlib.Core.List.{List, [], _∷_, _++_, append-assoc}
 use Prim.Native.Nat.{ℕ, zero, suc, _+_, _-_, _*_, _^_, _≤_}
 use native.Mathlib.Omega.{arith}
 use lib.ListN.{length, take, drop, replicate, length-append, length-drop, length-replicate, take-append-drop}
@@ -10,62 +10,55 @@ use Rattle.octets.specs.Numbers.{numberAfter, number, numberAt, digits}
 use Rattle.octets.specs.Strings.{Octets, allZero, join}
 use Rattle.octets.proofs.NumberLaws.{length-digits, number-digits, digits-number}
 use Rattle.octets.proofs.StringLaws.{same-eq, same-refl, zeros-are, allZero-replicate, octets-take, octets-drop}
-use Rattle.format.specs.Container.{magic, least, limit, nodeAt, enablerAt, sizeAt, offsetAt, leasesAt, dataAt, countAt, usedLength, nodeOf, enablerOf, sizeOf, dataOf, extrasOf, records, leasesOf, ownerOf, held, recordOk, recordsOk, lastHeld, wellFormed}
-use Rattle.format.specs.Parts.{Parts, extras, used, partsOf, encode, Place, Each, Valid, noLease, fresh}
-use Rattle.format.proofs.WellFormed.{both, Fields, Contents, formed-facts, formed-true, count-is, used-is, length-records, records-shift, length-leases, join-records, length-join, records-join, data-length}
-
--- ---- Each
-pub each-append : {A : Type 0} (P : A → Type 0) (a b : List A) → Each P a → Each P b → Each P (a ++ b)
-each-append P [] b h k = k
-each-append P (x ∷ a) b h k = (h .0, each-append P a b (h .1) k)
-
-pub each-take : {A : Type 0} (P : A → Type 0) (n : ℕ) (ls : List A) → Each P ls → Each P (take n ls)
-each-take P zero ls h = tt
-each-take P (suc n) [] h = h
-each-take P (suc n) (x ∷ ls) h = (h .0, each-take P n ls (h .1))
-
-pub each-drop : {A : Type 0} (P : A → Type 0) (n : ℕ) (ls : List A) → Each P ls → Each P (drop n ls)
-each-drop P zero ls h = h
-each-drop P (suc n) [] h = h
-each-drop P (suc n) (x ∷ ls) h = each-drop P n ls (h .1)
+use Rattle.format.specs.Layout.{magic, least, limit, nodeAt, enablerAt, sizeAt, offsetAt, leasesAt, dataAt}
+use Rattle.format.specs.Layout.{countAt, usedLength, nodeOf, enablerOf, sizeOf, dataOf, extrasOf, records}
+use Rattle.format.specs.Layout.{leasesOf, ownerOf, countSize, fixedPlaces, recordSize, sizeWidth}
+use Rattle.format.specs.Container.{held, recordOk, lastHeld, wellFormed}
+use Rattle.format.specs.Parts.{Parts, extras, used, partsOf, encode, noLease, fresh, headOf, frontOf, tailOf}
+use Rattle.format.specs.Claims.{Place, Valid}
+use Rattle.octets.specs.Lists.{Each, every}
+use Rattle.octets.proofs.ListLaws.{both, each-append, each-drop, each-take}
+use Rattle.format.proofs.WellFormed.{Fields, Contents, formed-facts, formed-true, count-is, used-is}
+use Rattle.format.proofs.WellFormed.{length-records, records-shift, length-leases, join-records, length-join}
+use Rattle.format.proofs.WellFormed.{records-join, data-length}
 
 -- ---- lease places and the test on records
-pub places-sizes : (ls : List (List ℕ)) → Each Place ls → Each (λ r. length r ≡ 92) ls
+pub places-sizes : (ls : List (List ℕ)) → Each Place ls → Each (λ r. length r ≡ recordSize) ls
 places-sizes [] h = h
 places-sizes (r ∷ ls) h = (h .0 .size, places-sizes ls (h .1))
 
-pub places-ok : (ls : List (List ℕ)) → Each Place ls → recordsOk ls ≡ true
-unfolding recordsOk
+pub places-ok : (ls : List (List ℕ)) → Each Place ls → every recordOk ls ≡ true
+unfolding every
 places-ok [] h = refl
 places-ok (r ∷ ls) h = rw (h .0 .ok) (places-ok ls (h .1))
 
-pub ok-places : (ls : List (List ℕ)) → Each (λ r. length r ≡ 92) ls → recordsOk ls ≡ true → Each Place ls
-unfolding recordsOk
+pub ok-places : (ls : List (List ℕ)) → Each (λ r. length r ≡ recordSize) ls → every recordOk ls ≡ true → Each Place ls
+unfolding every
 ok-places [] h e = h
 ok-places (r ∷ ls) h e =
     let k = both _ _ e in
     (record { size = h .0; ok = k .0 }, ok-places ls (h .1) (k .1))
 
-pub records-sizes : (n p : ℕ) (c : List ℕ) → p + 92 * n ≤ length c → Each (λ r. length r ≡ 92) (records n p c)
+pub records-sizes : (n p : ℕ) (c : List ℕ) → p + recordSize * n ≤ length c → Each (λ r. length r ≡ recordSize) (records n p c)
 unfolding records
 records-sizes zero p c h = tt
-records-sizes (suc n) p c h = (length-take-le 92 (drop p c) (rw length-drop (omega arith)), records-sizes n (p + 92) c (omega arith))
+records-sizes (suc n) p c h = (length-take-le recordSize (drop p c) (rw length-drop (omega arith)), records-sizes n (p + recordSize) c (omega arith))
 
 -- ---- the leases of a container: the four, then the extras
-pub four-leases : (c : List ℕ) → take 4 (leasesOf c) ≡ records 4 leasesAt c
+pub four-leases : (c : List ℕ) → take fixedPlaces (leasesOf c) ≡ records fixedPlaces leasesAt c
 unfolding leasesOf
-four-leases c = take-at (records 4 leasesAt c) (records (extrasOf c) (countAt (sizeOf c) + 4) c) 4 (length-records 4 leasesAt c)
+four-leases c = take-at (records fixedPlaces leasesAt c) (records (extrasOf c) (countAt (sizeOf c) + countSize) c) 4 (length-records fixedPlaces leasesAt c)
 
-pub extra-leases : (c : List ℕ) → drop 4 (leasesOf c) ≡ records (extrasOf c) (countAt (sizeOf c) + 4) c
+pub extra-leases : (c : List ℕ) → drop fixedPlaces (leasesOf c) ≡ records (extrasOf c) (countAt (sizeOf c) + countSize) c
 unfolding leasesOf
-extra-leases c = drop-at (records 4 leasesAt c) (records (extrasOf c) (countAt (sizeOf c) + 4) c) 4 (length-records 4 leasesAt c)
+extra-leases c = drop-at (records fixedPlaces leasesAt c) (records (extrasOf c) (countAt (sizeOf c) + countSize) c) 4 (length-records fixedPlaces leasesAt c)
 
-pub leases-sizes : (c : List ℕ) → usedLength (sizeOf c) (extrasOf c) ≤ length c → Each (λ r. length r ≡ 92) (leasesOf c)
+pub leases-sizes : (c : List ℕ) → usedLength (sizeOf c) (extrasOf c) ≤ length c → Each (λ r. length r ≡ recordSize) (leasesOf c)
 unfolding leasesOf
 leases-sizes c h =
     let u = used-is (sizeOf c) (extrasOf c) in
     let k = count-is (sizeOf c) in
-    each-append _ (records 4 leasesAt c) _ (records-sizes 4 leasesAt c (omega arith)) (records-sizes (extrasOf c) (countAt (sizeOf c) + 4) c (omega arith))
+    each-append _ (records fixedPlaces leasesAt c) _ (records-sizes 4 leasesAt c (omega arith)) (records-sizes (extrasOf c) (countAt (sizeOf c) + countSize) c (omega arith))
 
 -- ---- from the bytes: the parts are valid
 pub parts-used : (c : List ℕ) → wellFormed c ≡ true → used (partsOf c) ≡ usedLength (sizeOf c) (extrasOf c)
@@ -125,18 +118,18 @@ pub enabler-field : (c : List ℕ) → take 32 (drop enablerAt c) ≡ enablerOf 
 unfolding enablerOf
 enabler-field c = refl
 
-pub four-field : (c : List ℕ) → take 368 (drop leasesAt c) ≡ join (take 4 (leasesOf c))
-four-field c = sym (ap join (four-leases c) ∙ join-records 4 leasesAt c)
+pub four-field : (c : List ℕ) → take (fixedPlaces * recordSize) (drop leasesAt c) ≡ join (take fixedPlaces (leasesOf c))
+four-field c = sym (ap join (four-leases c) ∙ join-records fixedPlaces leasesAt c)
 
-pub extra-field : (c : List ℕ) → take (92 * extrasOf c) (drop (countAt (sizeOf c) + 4) c) ≡ join (drop 4 (leasesOf c))
-extra-field c = sym (ap join (extra-leases c) ∙ join-records (extrasOf c) (countAt (sizeOf c) + 4) c)
+pub extra-field : (c : List ℕ) → take (recordSize * extrasOf c) (drop (countAt (sizeOf c) + countSize) c) ≡ join (drop fixedPlaces (leasesOf c))
+extra-field c = sym (ap join (extra-leases c) ∙ join-records (extrasOf c) (countAt (sizeOf c) + countSize) c)
 
 pub rest-field : (c : List ℕ) (a : ℕ) → allZero (drop a c) ≡ true → drop a c ≡ replicate (length c - a) 0
 rest-field c a e = zeros-are (drop a c) e ∙ ap (λ (k : ℕ). replicate k 0) (length-drop a c)
 
 -- The table, with the parts as they stand in the container.
 pub laid-out : (c : List ℕ) → wellFormed c ≡ true → Octets c
-    → c ≡ magic ++ (nodeOf c ++ (enablerOf c ++ (digits 8 (sizeOf c) ++ (digits 8 (countAt (sizeOf c)) ++ (join (take 4 (leasesOf c)) ++ (dataOf c ++ (digits 4 (extrasOf c) ++ (join (drop 4 (leasesOf c)) ++ replicate (length c - usedLength (sizeOf c) (extrasOf c)) 0))))))))
+    → c ≡ magic ++ (nodeOf c ++ (enablerOf c ++ (digits 8 (sizeOf c) ++ (digits 8 (countAt (sizeOf c)) ++ (join (take fixedPlaces (leasesOf c)) ++ (dataOf c ++ (digits 4 (extrasOf c) ++ (join (drop fixedPlaces (leasesOf c)) ++ replicate (length c - usedLength (sizeOf c) (extrasOf c)) 0))))))))
 laid-out c w o =
     let s : ℕ = sizeOf c in
     let e : ℕ = extrasOf c in
@@ -145,21 +138,44 @@ laid-out c w o =
     let f = formed-facts c w in
     let h = f .fields in
     let z9 = rest-field c (usedLength s e) (f .contents .zeros) in
-    let z8 = field-then c (countAt s + 4) (92 * e) (usedLength s e) _ _ (omega arith) (extra-field c) z9 in
-    let z7 = field-then c (countAt s) 4 (countAt s + 4) _ _ refl (digits-at c 4 (countAt s) e (omega arith) o (extras-field c)) z8 in
+    let z8 = field-then c (countAt s + countSize) (recordSize * e) (usedLength s e) _ _ (omega arith) (extra-field c) z9 in
+    let z7 = field-then c (countAt s) 4 (countAt s + countSize) _ _ refl (digits-at c 4 (countAt s) e (omega arith) o (extras-field c)) z8 in
     let z6 = field-then c dataAt s (countAt s) _ _ (sym k) (data-field c) z7 in
-    let z5 = field-then c leasesAt 368 dataAt _ _ refl (four-field c) z6 in
+    let z5 = field-then c leasesAt (fixedPlaces * recordSize) dataAt _ _ refl (four-field c) z6 in
     let z4 = field-then c offsetAt 8 leasesAt _ _ refl (digits-at c 8 offsetAt (countAt s) (omega arith) o (h .offset)) z5 in
     let z3 = field-then c sizeAt 8 offsetAt _ _ refl (digits-at c 8 sizeAt s (omega arith) o (size-field c)) z4 in
     let z2 = field-then c enablerAt 32 sizeAt _ _ refl (enabler-field c) z3 in
     let z1 = field-then c nodeAt 20 enablerAt _ _ refl (node-field c) z2 in
     field-then c 0 32 nodeAt _ _ refl (same-eq (take 32 c) magic (h .magical)) z1
 
+-- The encoding, field after field.
+flat : (m a b u v j d x y z : List ℕ) →
+    ((m ++ (a ++ (b ++ (u ++ v)))) ++ j) ++ (d ++ ((x ++ y) ++ z))
+    ≡ m ++ (a ++ (b ++ (u ++ (v ++ (j ++ (d ++ (x ++ (y ++ z))))))))
+flat m a b u v j d x y z = simp append-assoc
+
+pub encode-flat : (p : Parts) →
+    encode p
+    ≡ magic
+    ++ (p .node
+    ++ (p .enabler
+    ++ (digits sizeWidth (length (p .bytes))
+    ++ (digits sizeWidth (countAt (length (p .bytes)))
+    ++ (join (take fixedPlaces (p .leases))
+    ++ (p .bytes
+    ++ (digits countSize (extras (p .leases))
+    ++ (join (drop fixedPlaces (p .leases)) ++ replicate (p .room - used p) 0))))))))
+unfolding encode headOf frontOf tailOf
+encode-flat p =
+    flat magic (p .node) (p .enabler) (digits sizeWidth (length (p .bytes)))
+    (digits sizeWidth (countAt (length (p .bytes)))) (join (take fixedPlaces (p .leases))) (p .bytes)
+    (digits countSize (extras (p .leases))) (join (drop fixedPlaces (p .leases))) (replicate (p .room - used p) 0)
+
 pub encode-parts : (c : List ℕ) → wellFormed c ≡ true → Octets c → encode (partsOf c) ≡ c
-unfolding encode partsOf used extras
+unfolding partsOf used extras
 encode-parts c w o =
-    let k : 4 + extrasOf c - 4 ≡ extrasOf c = omega arith in
-    rw (data-length c w, length-leases c, k) (sym (laid-out c w o))
+    let k : fixedPlaces + extrasOf c - fixedPlaces ≡ extrasOf c = omega arith in
+    encode-flat (partsOf c) ∙ rw (data-length c w, length-leases c, k) (sym (laid-out c w o))
 
 pub parts-determine : (b c : List ℕ) → wellFormed b ≡ true → wellFormed c ≡ true → Octets b → Octets c → partsOf b ≡ partsOf c → b ≡ c
 parts-determine b c wb wc ob oc e = sym (encode-parts b wb ob) ∙ ap encode e ∙ encode-parts c wc oc
@@ -170,7 +186,7 @@ pub field-back : (c : List ℕ) (k n j : ℕ) (m t : List ℕ) → drop k c ≡ 
 field-back c k n j m t e l q = (rw e (take-at m t n l), ap (λ (i : ℕ). drop i c) (sym q) ∙ sym (drop-drop n k c) ∙ rw e (drop-at m t n l))
 
 -- Joined records read back.
-pub records-back : (n a : ℕ) (c : List ℕ) (ls : List (List ℕ)) (t : List ℕ) → drop a c ≡ join ls ++ t → length ls ≡ n → Each (λ r. length r ≡ 92) ls → records n a c ≡ ls
+pub records-back : (n a : ℕ) (c : List ℕ) (ls : List (List ℕ)) (t : List ℕ) → drop a c ≡ join ls ++ t → length ls ≡ n → Each (λ r. length r ≡ recordSize) ls → records n a c ≡ ls
 records-back n a c ls t e l h =
     let k : a ≡ a + 0 = omega arith in
     ap (λ (i : ℕ). records n i c) k ∙ records-shift n a 0 c ∙ ap (records n 0) e ∙ ap (λ (m : ℕ). records m 0 (join ls ++ t)) (sym l) ∙ records-join ls t h
@@ -183,54 +199,54 @@ pub record Written (p : Parts) (s e : ℕ) (c : List ℕ) : Type 0 where
   pub size : take 8 (drop sizeAt c) ≡ digits 8 s
   pub offset : take 8 (drop offsetAt c) ≡ digits 8 (countAt s)
   pub after-offset : List ℕ
-  pub four : drop leasesAt c ≡ join (take 4 (p .leases)) ++ after-offset
+  pub four : drop leasesAt c ≡ join (take fixedPlaces (p .leases)) ++ after-offset
   pub bytes : take s (drop dataAt c) ≡ p .bytes
   pub count : take 4 (drop (countAt s) c) ≡ digits 4 e
-  pub more : drop (countAt s + 4) c ≡ join (drop 4 (p .leases)) ++ replicate (p .room - usedLength s e) 0
+  pub more : drop (countAt s + countSize) c ≡ join (drop fixedPlaces (p .leases)) ++ replicate (p .room - usedLength s e) 0
   pub rest : drop (usedLength s e) c ≡ replicate (p .room - usedLength s e) 0
 
 module _ (p : Parts) (v : Valid p) where
-  sizes : Each (λ r. length r ≡ 92) (p .leases)
+  sizes : Each (λ r. length r ≡ recordSize) (p .leases)
   sizes = places-sizes (p .leases) (v .places)
 
-  four-long : length (take 4 (p .leases)) ≡ 4
+  four-long : length (take fixedPlaces (p .leases)) ≡ 4
   four-long = length-take-le 4 (p .leases) (v .four)
 
-  extras-long : length (drop 4 (p .leases)) ≡ extras (p .leases)
+  extras-long : length (drop fixedPlaces (p .leases)) ≡ extras (p .leases)
   unfolding extras
-  extras-long = length-drop 4 (p .leases)
+  extras-long = length-drop fixedPlaces (p .leases)
 
-  four-bytes : length (join (take 4 (p .leases))) ≡ 368
-  four-bytes = length-join (take 4 (p .leases)) (each-take _ 4 (p .leases) sizes) ∙ rw four-long
+  pub four-bytes : length (join (take fixedPlaces (p .leases))) ≡ (fixedPlaces * recordSize)
+  four-bytes = length-join (take fixedPlaces (p .leases)) (each-take _ 4 (p .leases) sizes) ∙ rw four-long
 
-  extra-bytes : length (join (drop 4 (p .leases))) ≡ 92 * extras (p .leases)
-  extra-bytes = length-join (drop 4 (p .leases)) (each-drop _ 4 (p .leases) sizes) ∙ rw extras-long
+  pub extra-bytes : length (join (drop fixedPlaces (p .leases))) ≡ recordSize * extras (p .leases)
+  extra-bytes = length-join (drop fixedPlaces (p .leases)) (each-drop _ 4 (p .leases) sizes) ∙ rw extras-long
 
   room-used : usedLength (length (p .bytes)) (extras (p .leases)) ≤ p .room
   unfolding used
   room-used = v .fits
 
   pub length-encode : length (encode p) ≡ p .room
-  unfolding encode used
+  unfolding used
   length-encode =
-      simp (length-append, length-digits, length-replicate, four-bytes, extra-bytes, v .node-size, v .enabler-size) (omega (arith, room-used, used-is (length (p .bytes)) (extras (p .leases))))
+      rw encode-flat (simp (length-append, length-digits, length-replicate, four-bytes, extra-bytes, v .node-size, v .enabler-size) (omega (arith, room-used, used-is (length (p .bytes)) (extras (p .leases)))))
 
   pub written : Written p (length (p .bytes)) (extras (p .leases)) (encode p)
-  unfolding encode used
+  unfolding used
   written =
       let s : ℕ = length (p .bytes) in
       let e : ℕ = extras (p .leases) in
       let c : List ℕ = encode p in
-      let z0 = field-back c 0 32 nodeAt magic _ refl refl refl in
+      let z0 = field-back c 0 nodeAt nodeAt magic _ (encode-flat p) refl refl in
       let z1 = field-back c nodeAt 20 enablerAt (p .node) _ (z0 .1) (v .node-size) refl in
       let z2 = field-back c enablerAt 32 sizeAt (p .enabler) _ (z1 .1) (v .enabler-size) refl in
       let z3 = field-back c sizeAt 8 offsetAt (digits 8 s) _ (z2 .1) (length-digits 8 s) refl in
       let z4 = field-back c offsetAt 8 leasesAt (digits 8 (countAt s)) _ (z3 .1) (length-digits 8 (countAt s)) refl in
-      let z5 = field-back c leasesAt 368 dataAt (join (take 4 (p .leases))) _ (z4 .1) four-bytes refl in
+      let z5 = field-back c leasesAt (fixedPlaces * recordSize) dataAt (join (take fixedPlaces (p .leases))) _ (z4 .1) four-bytes refl in
       let z6 = field-back c dataAt s (countAt s) (p .bytes) _ (z5 .1) refl (sym (count-is s)) in
-      let z7 = field-back c (countAt s) 4 (countAt s + 4) (digits 4 e) _ (z6 .1) (length-digits 4 e) refl in
-      let q : countAt s + 4 + 92 * e ≡ usedLength s e = omega (arith, count-is s, used-is s e) in
-      let z8 = field-back c (countAt s + 4) (92 * e) (usedLength s e) (join (drop 4 (p .leases))) _ (z7 .1) extra-bytes q in
+      let z7 = field-back c (countAt s) 4 (countAt s + countSize) (digits 4 e) _ (z6 .1) (length-digits 4 e) refl in
+      let q : countAt s + countSize + recordSize * e ≡ usedLength s e = omega (arith, count-is s, used-is s e) in
+      let z8 = field-back c (countAt s + countSize) (recordSize * e) (usedLength s e) (join (drop fixedPlaces (p .leases))) _ (z7 .1) extra-bytes q in
       record { magical = z0 .0; node = z1 .0; enabler = z2 .0; size = z3 .0; offset = z4 .0; after-offset = _; four = z4 .1; bytes = z6 .0; count = z7 .0; more = z7 .1; rest = z8 .1 }
 
   -- what the fields of the encoding say
@@ -264,15 +280,15 @@ module _ (p : Parts) (v : Valid p) where
   unfolding dataOf
   data-encode = rw size-encode (written .bytes)
 
-  four-encode : records 4 leasesAt (encode p) ≡ take 4 (p .leases)
-  four-encode = records-back 4 leasesAt (encode p) (take 4 (p .leases)) (written .after-offset) (written .four) four-long (each-take _ 4 (p .leases) sizes)
+  four-encode : records fixedPlaces leasesAt (encode p) ≡ take fixedPlaces (p .leases)
+  four-encode = records-back 4 leasesAt (encode p) (take fixedPlaces (p .leases)) (written .after-offset) (written .four) four-long (each-take _ 4 (p .leases) sizes)
 
-  more-encode : records (extras (p .leases)) (countAt (length (p .bytes)) + 4) (encode p) ≡ drop 4 (p .leases)
-  more-encode = records-back (extras (p .leases)) (countAt (length (p .bytes)) + 4) (encode p) (drop 4 (p .leases)) _ (written .more) extras-long (each-drop _ 4 (p .leases) sizes)
+  more-encode : records (extras (p .leases)) (countAt (length (p .bytes)) + countSize) (encode p) ≡ drop fixedPlaces (p .leases)
+  more-encode = records-back (extras (p .leases)) (countAt (length (p .bytes)) + countSize) (encode p) (drop fixedPlaces (p .leases)) _ (written .more) extras-long (each-drop _ 4 (p .leases) sizes)
 
   pub leases-encode : leasesOf (encode p) ≡ p .leases
   unfolding leasesOf
-  leases-encode = rw (size-encode, extras-encode, four-encode, more-encode) (take-append-drop 4 (p .leases))
+  leases-encode = rw (size-encode, extras-encode, four-encode, more-encode) (take-append-drop fixedPlaces (p .leases))
 
   -- read back
   pub parts-encode : partsOf (encode p) ≡ p
@@ -289,7 +305,7 @@ module _ (p : Parts) (v : Valid p) where
   }
     where
       few-extras : extras (p .leases) ≤ 60
-      few-extras = omega (arith, sym extras-long ∙ length-drop 4 (p .leases), v .few)
+      few-extras = omega (arith, sym extras-long ∙ length-drop fixedPlaces (p .leases), v .few)
 
   contents-encode : Contents (encode p)
   contents-encode = record {

@@ -1,5 +1,5 @@
 -- What well-formedness of a container says, as records of facts; laws of its lease records. Assumes nothing.
-use mathlib.Core.Path.{_≡_, refl, ap, _∙_}
+use mathlib.Core.Path.{_≡_, refl, sym, ap, _∙_}
 use mathlib.Core.Bool.{Bool, true, false, _&&_, false≢true}
 use mathlib.Core.List.{List, [], _∷_, _++_, append-assoc}
 use Prim.Native.Nat.{ℕ, zero, suc, _+_, _*_, _≤_, _<_}
@@ -10,16 +10,11 @@ use lib.Seq.{length-take-le, drop-drop, take-add, take-at, drop-at}
 use borrow.Author.Tests.{eqb-true, leb-true, eq-eqb, le-leb}
 use Rattle.octets.specs.Numbers.{numberAt}
 use Rattle.octets.specs.Strings.{allZero, same, join}
-use Rattle.format.specs.Container.{magic, least, limit, lengthAllowed, offsetAt, leasesAt, dataAt, countAt, usedLength, sizeOf, dataOf, extrasOf, records, leasesOf, held, recordOk, recordsOk, lastHeld, fieldsOk, contentsOk, wellFormed}
-use Rattle.format.specs.Parts.{Each}
-
-pub both : (a b : Bool) → (a && b) ≡ true → (a ≡ true) × (b ≡ true)
-both true b e = (refl, e)
-both false b e = absurd (false≢true e)
-
-pub by-refuting : (t : Bool) → (t ≡ true → ⊥) → t ≡ false
-by-refuting true h = absurd (h refl)
-by-refuting false h = refl
+use Rattle.format.specs.Layout.{magic, least, limit, offsetAt, leasesAt, dataAt, countAt, usedLength, sizeOf}
+use Rattle.format.specs.Layout.{dataOf, extrasOf, leasesOf, recordSize, records, fixedPlaces, countSize}
+use Rattle.format.specs.Container.{lengthAllowed, held, recordOk, lastHeld, fieldsOk, contentsOk, wellFormed}
+use Rattle.octets.specs.Lists.{Each, every}
+use Rattle.octets.proofs.ListLaws.{both, by-refuting, and-assoc}
 
 -- ---- the fields
 pub record Fields (c : List ℕ) : Type 0 where
@@ -45,8 +40,8 @@ fields-false c k = by-refuting (fieldsOk c) (λ e. k (fields-facts c e))
 
 -- ---- the contents
 pub record Contents (c : List ℕ) : Type 0 where
-  pub records : recordsOk (leasesOf c) ≡ true
-  pub last : lastHeld (drop 4 (leasesOf c)) ≡ true
+  pub records : every recordOk (leasesOf c) ≡ true
+  pub last : lastHeld (drop fixedPlaces (leasesOf c)) ≡ true
   pub zeros : allZero (drop (usedLength (sizeOf c) (extrasOf c)) c) ≡ true
 
 pub contents-facts : (c : List ℕ) → contentsOk c ≡ true → Contents c
@@ -86,11 +81,11 @@ pub formed-false : (c : List ℕ) → (Formed c → ⊥) → wellFormed c ≡ fa
 formed-false c k = by-refuting (wellFormed c) (λ e. k (formed-facts c e))
 
 -- ---- the table in numbers
-pub count-is : (s : ℕ) → countAt s ≡ 468 + s
+pub count-is : (s : ℕ) → countAt s ≡ dataAt + s
 unfolding countAt
 count-is s = refl
 
-pub used-is : (s e : ℕ) → usedLength s e ≡ 472 + s + 92 * e
+pub used-is : (s e : ℕ) → usedLength s e ≡ least + s + recordSize * e
 unfolding usedLength countAt
 used-is s e = omega arith
 
@@ -98,78 +93,74 @@ used-is s e = omega arith
 pub length-records : (n p : ℕ) (c : List ℕ) → length (records n p c) ≡ n
 unfolding records
 length-records zero p c = refl
-length-records (suc n) p c = ap suc (length-records n (p + 92) c)
+length-records (suc n) p c = ap suc (length-records n (p + recordSize) c)
 
-pub records-add : (m n p : ℕ) (c : List ℕ) → records (m + n) p c ≡ records m p c ++ records n (p + 92 * m) c
+pub records-add : (m n p : ℕ) (c : List ℕ) → records (m + n) p c ≡ records m p c ++ records n (p + recordSize * m) c
 unfolding records
 records-add zero n p c =
     let e : 0 + n ≡ n = omega arith in
-    let k : p + 92 * 0 ≡ p = omega arith in
+    let k : p + recordSize * 0 ≡ p = omega arith in
     rw (e, k)
 records-add (suc m) n p c =
     let e : suc m + n ≡ suc (m + n) = omega arith in
-    let k : p + 92 + 92 * m ≡ p + 92 * suc m = omega arith in
-    rw (e, ← k) (ap (λ (l : List (List ℕ)). take 92 (drop p c) ∷ l) (records-add m n (p + 92) c))
+    let k : p + recordSize + recordSize * m ≡ p + recordSize * suc m = omega arith in
+    rw (e, ← k) (ap (λ (l : List (List ℕ)). take recordSize (drop p c) ∷ l) (records-add m n (p + recordSize) c))
 
 pub records-shift : (n a p : ℕ) (c : List ℕ) → records n (a + p) c ≡ records n p (drop a c)
 unfolding records
 records-shift zero a p c = refl
 records-shift (suc n) a p c =
-    let k : a + p + 92 ≡ a + (p + 92) = omega arith in
-    rw (drop-drop p a c, k) (ap (λ (l : List (List ℕ)). take 92 (drop (a + p) c) ∷ l) (records-shift n a (p + 92) c))
+    let k : a + p + recordSize ≡ a + (p + recordSize) = omega arith in
+    rw (drop-drop p a c, k) (ap (λ (l : List (List ℕ)). take recordSize (drop (a + p) c) ∷ l) (records-shift n a (p + recordSize) c))
 
-pub record-at : (n p i : ℕ) (c : List ℕ) → i < n → getD (records n p c) i [] ≡ take 92 (drop (p + 92 * i) c)
+pub record-at : (n p i : ℕ) (c : List ℕ) → i < n → getD (records n p c) i [] ≡ take recordSize (drop (p + recordSize * i) c)
 unfolding records
 record-at zero p i c h = absurd (not-suc-le-zero h)
 record-at (suc n) p zero c h =
-    let k : p + 92 * 0 ≡ p = omega arith in
+    let k : p + recordSize * 0 ≡ p = omega arith in
     rw k
 record-at (suc n) p (suc i) c h =
-    let k : p + 92 + 92 * i ≡ p + 92 * suc i = omega arith in
-    record-at n (p + 92) i c (omega arith) ∙ rw k
+    let k : p + recordSize + recordSize * i ≡ p + recordSize * suc i = omega arith in
+    record-at n (p + recordSize) i c (omega arith) ∙ rw k
 
-pub lastHeld-records : (n p : ℕ) (c : List ℕ) → lastHeld (records (suc n) p c) ≡ held (take 92 (drop (p + 92 * n) c))
+pub lastHeld-records : (n p : ℕ) (c : List ℕ) → lastHeld (records (suc n) p c) ≡ held (take recordSize (drop (p + recordSize * n) c))
 unfolding records lastHeld
 lastHeld-records zero p c =
-    let k : p + 92 * 0 ≡ p = omega arith in
+    let k : p + recordSize * 0 ≡ p = omega arith in
     rw k
 lastHeld-records (suc n) p c =
-    let k : p + 92 + 92 * n ≡ p + 92 * suc n = omega arith in
-    lastHeld-records n (p + 92) c ∙ rw k
+    let k : p + recordSize + recordSize * n ≡ p + recordSize * suc n = omega arith in
+    lastHeld-records n (p + recordSize) c ∙ rw k
 
-and-assoc : (a b d : Bool) → (a && (b && d)) ≡ ((a && b) && d)
-and-assoc true b d = refl
-and-assoc false b d = refl
-
-pub recordsOk-append : (a b : List (List ℕ)) → recordsOk (a ++ b) ≡ (recordsOk a && recordsOk b)
-unfolding recordsOk
-recordsOk-append [] b = refl
-recordsOk-append (r ∷ a) b = ap (λ (t : Bool). recordOk r && t) (recordsOk-append a b) ∙ and-assoc (recordOk r) (recordsOk a) (recordsOk b)
+pub every-append : (a b : List (List ℕ)) → every recordOk (a ++ b) ≡ (every recordOk a && every recordOk b)
+unfolding every
+every-append [] b = refl
+every-append (r ∷ a) b = ap (λ (t : Bool). recordOk r && t) (every-append a b) ∙ sym (and-assoc (recordOk r) (every recordOk a) (every recordOk b))
 
 pub length-leases : (c : List ℕ) → length (leasesOf c) ≡ 4 + extrasOf c
 unfolding leasesOf
-length-leases c = length-append (records 4 leasesAt c) (records (extrasOf c) (countAt (sizeOf c) + 4) c) ∙ rw (length-records 4 leasesAt c, length-records (extrasOf c) (countAt (sizeOf c) + 4) c)
+length-leases c = length-append (records fixedPlaces leasesAt c) (records (extrasOf c) (countAt (sizeOf c) + countSize) c) ∙ rw (length-records fixedPlaces leasesAt c, length-records (extrasOf c) (countAt (sizeOf c) + countSize) c)
 
 -- ---- lease records, joined (records that reach past the end are cut short on both sides)
-pub join-records : (n p : ℕ) (c : List ℕ) → join (records n p c) ≡ take (92 * n) (drop p c)
+pub join-records : (n p : ℕ) (c : List ℕ) → join (records n p c) ≡ take (recordSize * n) (drop p c)
 unfolding records join
 join-records zero p c = refl
 join-records (suc n) p c =
-    let k : 92 * suc n ≡ 92 + 92 * n = omega arith in
-    rw (k, take-add 92 (92 * n) (drop p c), drop-drop 92 p c) (ap (λ (l : List ℕ). take 92 (drop p c) ++ l) (join-records n (p + 92) c))
+    let k : recordSize * suc n ≡ recordSize + recordSize * n = omega arith in
+    rw (k, take-add recordSize (recordSize * n) (drop p c), drop-drop recordSize p c) (ap (λ (l : List ℕ). take recordSize (drop p c) ++ l) (join-records n (p + recordSize) c))
 
-pub length-join : (ls : List (List ℕ)) → Each (λ r. length r ≡ 92) ls → length (join ls) ≡ 92 * length ls
+pub length-join : (ls : List (List ℕ)) → Each (λ r. length r ≡ recordSize) ls → length (join ls) ≡ recordSize * length ls
 unfolding join
 length-join [] h = refl
 length-join (r ∷ ls) h = length-append r (join ls) ∙ rw (h .0, length-join ls (h .1)) (omega arith)
 
-pub records-join : (ls : List (List ℕ)) (t : List ℕ) → Each (λ r. length r ≡ 92) ls → records (length ls) 0 (join ls ++ t) ≡ ls
+pub records-join : (ls : List (List ℕ)) (t : List ℕ) → Each (λ r. length r ≡ recordSize) ls → records (length ls) 0 (join ls ++ t) ≡ ls
 unfolding records join
 records-join [] t h = refl
 records-join (r ∷ ls) t h =
     let c : List ℕ = join ls ++ t in
-    let ih : records (length ls) 92 (r ++ c) ≡ ls = records-shift (length ls) 92 0 (r ++ c) ∙ rw (drop-at r c 92 (h .0)) (records-join ls t (h .1)) in
-    rw (append-assoc r (join ls) t, take-at r c 92 (h .0), ih)
+    let ih : records (length ls) recordSize (r ++ c) ≡ ls = records-shift (length ls) recordSize 0 (r ++ c) ∙ rw (drop-at r c recordSize (h .0)) (records-join ls t (h .1)) in
+    rw (append-assoc r (join ls) t, take-at r c recordSize (h .0), ih)
 
 -- ---- data
 pub data-length : (c : List ℕ) → wellFormed c ≡ true → length (dataOf c) ≡ sizeOf c

@@ -1,5 +1,7 @@
--- The container of document 01: its bytes, and its parts.
+-- The container's format, and the parts that a container is read into.
+pub mod Layout
 pub mod Container
 pub mod Parts
-pub mod Known
-pub mod Judged
+pub mod Claims
+pub mod Judging
+pub mod View

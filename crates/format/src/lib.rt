@@ -1,2 +1,3 @@
-// The container's format: is a buffer a well-formed container, and where are its parts.
-pub mod container;
+// The container's format: where its parts stand, and whether a buffer is a well-formed container.
+pub mod judging;
+pub mod layout;

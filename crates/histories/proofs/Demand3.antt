@@ -6,20 +6,23 @@ use mathlib.Core.Option.{Option, none, some}
 use Prim.Native.Nat.{ℕ}
 use lib.ListN.{length}
 use lib.Dec.{eqb}
-use Rattle.format.specs.Container.{dataOf}
-use Rattle.format.specs.Parts.{Parts, Valid, encode, fresh}
+use Rattle.format.specs.Layout.{dataOf}
+use Rattle.format.specs.Parts.{Parts, encode, fresh}
+use Rattle.format.specs.Claims.{Valid}
 use Rattle.format.proofs.RoundTrip.{encode-formed, leases-encode, data-encode}
-use Rattle.rules.specs.Requests.{Request, testWrite, add, renew, cancel, read, requestOf}
-use Rattle.rules.specs.Writing.{placed, rewritten}
-use Rattle.rules.specs.Outcomes.{withBytes, withLeases, after, afterOf, createOutcome, createdContainer}
+use Rattle.rules.specs.Requests.{requestOf}
+use Rattle.rules.specs.Outcomes.{afterOf, createOutcome, createdContainer}
 use Rattle.rules.proofs.Demand1.{created, created-valid}
-use Rattle.histories.specs.Runs.{Call, Heard, hears, leaves, ruleOutcome, ruleHears, ruleLeaves, answers, final, isLease, isData, noRoom, Never, Woven}
-use Rattle.histories.specs.Accepted.{Change, sizeAfter, byteAfter, changesOf, took, accepted}
+use Rattle.histories.specs.Runs.{Call, Heard, hears, leaves, ruleOutcome, ruleHears, ruleLeaves, answers, final}
+use Rattle.histories.specs.Runs.{isLease, isData, noRoom, Never, Woven}
+use Rattle.rules.specs.Changes.{Change, sizeAfter, byteAfter, changesOf}
+use Rattle.histories.specs.Accepted.{took, accepted}
 use Rattle.histories.specs.Claims.{Alike, ByRules, Told, Demand3}
 use Rattle.histories.proofs.Sides.{agree}
 use Rattle.histories.proofs.Follows.{valid-final, follows-answers, follows-final}
-use Rattle.histories.proofs.ChangeLaws.{performAll, length-performAll, at-performAll, performAll-append, perform-changes}
-use Rattle.histories.proofs.Steps.{heardBy, leftBy, earlyOf, heard-number, dataSide, leaseSide, room-stays, data-calls, lease-calls, follows}
+use Rattle.rules.proofs.ChangeLaws.{performAll, length-performAll, at-performAll, performAll-append, after-bytes}
+use Rattle.histories.proofs.Steps.{heardBy, leftBy, earlyOf, heard-number, dataSide, leaseSide, room-stays}
+use Rattle.histories.proofs.Steps.{data-calls, lease-calls, follows}
 
 -- ---- what the rules give
 pub by-rules : (h : List Call) (p : Parts) → Valid p → ByRules h (encode p) p
@@ -39,7 +42,7 @@ unfolding final
 room-final [] p = refl
 room-final (x ∷ h) p = room-final h (ruleLeaves x p) ∙ room-stays x p
 
-parts-agree : (p q : Parts) → dataSide p ≡ dataSide q → leaseSide p ≡ leaseSide q → p .room ≡ q .room → p ≡ q
+pub parts-agree : (p q : Parts) → dataSide p ≡ dataSide q → leaseSide p ≡ leaseSide q → p .room ≡ q .room → p ≡ q
 unfolding dataSide leaseSide
 parts-agree p q d l r = λ i. record { room = r i; node = d i .node; enabler = d i .enabler; bytes = d i .bytes; leases = l i .leases }
 
@@ -60,16 +63,7 @@ woven-alike h k p v w nh nk =
     }
 
 -- ---- the data bytes: the accepted changes, performed
-after-bytes : (p : Parts) (r : Option Request) → afterOf p r .bytes ≡ performAll (changesOf r (length (p .bytes))) (p .bytes)
-unfolding afterOf after withBytes withLeases changesOf performAll rewritten
-after-bytes p none = refl
-after-bytes p (some (testWrite k ts ws cut)) = perform-changes (placed ws (length (p .bytes))) cut (p .bytes)
-after-bytes p (some (add r)) = refl
-after-bytes p (some (renew t x)) = refl
-after-bytes p (some (cancel t)) = refl
-after-bytes p (some (read rs)) = refl
-
-step-bytes : (x : Call) (p : Parts) → ruleLeaves x p .bytes ≡ performAll (took x (ruleHears x p) (length (p .bytes))) (p .bytes)
+pub step-bytes : (x : Call) (p : Parts) → ruleLeaves x p .bytes ≡ performAll (took x (ruleHears x p) (length (p .bytes))) (p .bytes)
 unfolding ruleLeaves took performAll
 step-bytes x p = rw heard-number (go (eqb (ruleOutcome x p) 0))
   where
@@ -90,7 +84,7 @@ bytes-accepted (x ∷ xs) p =
     ∙ ap (performAll (accepted xs heard (sizeAfter os (length d)))) (step-bytes x p)
     ∙ sym (performAll-append os (accepted xs heard (sizeAfter os (length d))) d)
 
-told : (os : List Change) → Told os (performAll os [])
+pub told : (os : List Change) → Told os (performAll os [])
 unfolding byteAfter
 told os = record { size = length-performAll os []; each = λ i. at-performAll os [] i }
 

@@ -6,18 +6,25 @@ use mathlib.Core.Option.{Option, none, some}
 use Prim.Native.Nat.{ℕ}
 use lib.ListN.{length}
 use lib.Dec.{eqb, leb}
-use borrow.Author.Tests.{eqb-true}
+use borrow.Author.Tests.{not-false, eqb-true}
 use Rattle.octets.specs.Moves.{put}
-use Rattle.format.specs.Parts.{Parts, Valid, encode}
+use Rattle.format.specs.Parts.{Parts, encode}
+use Rattle.format.specs.Claims.{Valid}
 use Rattle.format.proofs.RoundTrip.{parts-encode}
 use Rattle.rules.specs.Requests.{Request, testWrite, add, renew, cancel, read, requestOf, kindOf, testWriteOf}
-use Rattle.rules.specs.Outcomes.{withBytes, withLeases, after, afterOf, lowest, rows, resolved, requestRows, replies, counted, answerTo, replyTo, replyBytes, answered, containerAfter, replyAfter}
-use Rattle.rules.proofs.Kept.{after-valid, not-false}
-use Rattle.rules.proofs.RequestLaws.{Kinds, broken, tests, adds, renews, cancels, reads, kinds, ProperOption, request-proper}
+use Rattle.rules.specs.Outcomes.{withBytes, withLeases, after, afterOf, rows, requestRows, replies, counted}
+use Rattle.rules.specs.Outcomes.{answerTo, replyTo, replyBytes, answered, containerAfter, replyAfter, admitRows}
+use Rattle.rules.specs.Outcomes.{findRows}
+use Rattle.octets.specs.Rows.{firstRow}
+use Rattle.rules.proofs.Kept.{after-valid}
+use Rattle.rules.proofs.RequestLaws.{Kinds, broken, tests, adds, renews, cancels, reads, kinds, ProperOption}
+use Rattle.rules.proofs.RequestLaws.{request-proper}
 use Rattle.rules.proofs.OutcomeLaws.{outcome-encode, answer-number, earlyRows, early, outcome-early}
-use Rattle.histories.specs.Runs.{Call, Heard, hears, leaves, ruleOutcome, ruleHears, ruleLeaves, isLease, isData, noRoom}
+use Rattle.histories.specs.Runs.{Call, Heard, hears, leaves, ruleOutcome, ruleHears, ruleLeaves, isLease}
+use Rattle.histories.specs.Runs.{isData, noRoom}
 use Rattle.histories.proofs.Follows.{Follows}
 use Rattle.histories.proofs.Sides.{Sided}
+use Rattle.octets.specs.Lists.{maybe}
 
 -- what is heard and left with outcome n
 unfoldable pub heardBy : ℕ → Call → Parts → Heard
@@ -87,7 +94,7 @@ same-choice true p = refl
 same-choice false p = refl
 
 data-alone-by : (x : Call) (p : Parts) → isLease x ≡ false → Kinds (x .request) → Alone dataSide x p
-unfolding heardBy leftBy earlyOf early earlyRows lowest dataSide rows resolved replyTo replyBytes counted answerTo afterOf after withBytes testWriteOf
+unfolding heardBy leftBy earlyOf early earlyRows firstRow dataSide rows admitRows findRows replyTo replyBytes maybe counted answerTo afterOf after withBytes testWriteOf
 data-alone-by x p l (broken e) = record { number = rw e refl; heard = rw e refl; after-side = rw e refl }
 data-alone-by x p l (tests k h o e) = record { number = rw e refl; heard = rw e refl; after-side = rw e refl }
 data-alone-by x p l (adds k o e) = never (lease-kind x 2 k) l
@@ -96,7 +103,7 @@ data-alone-by x p l (cancels k o e) = never (lease-kind x 4 k) l
 data-alone-by x p l (reads k o e) = record { number = rw e refl; heard = rw e refl; after-side = rw e refl }
 
 lease-alone-by : (x : Call) (p : Parts) → isLease x ≡ true → Kinds (x .request) → Alone leaseSide x p
-unfolding heardBy leftBy earlyOf early earlyRows lowest leaseSide rows resolved replyTo replyBytes counted answerTo afterOf after withLeases
+unfolding heardBy leftBy earlyOf early earlyRows firstRow leaseSide rows admitRows findRows replyTo replyBytes maybe counted answerTo afterOf after withLeases
 lease-alone-by x p l (broken e) = record { number = rw e refl; heard = rw e refl; after-side = rw e refl }
 lease-alone-by x p l (tests k h o e) = never l (lease-kind x 1 k)
 lease-alone-by x p l (adds k o e) = record { number = rw e refl; heard = rw e refl; after-side = rw e refl }
@@ -112,7 +119,7 @@ alone-left side x p a =
 
 -- a call of the other side leaves a side as it was
 data-stays-by : (x : Call) (p : Parts) → isLease x ≡ true → Kinds (x .request) → dataSide (afterOf p (requestOf (x .request))) ≡ dataSide p
-unfolding dataSide afterOf after withLeases
+unfolding dataSide afterOf maybe after withLeases
 data-stays-by x p l (broken e) = rw e refl
 data-stays-by x p l (tests k h o e) = never l (lease-kind x 1 k)
 data-stays-by x p l (adds k o e) = rw e refl
@@ -121,7 +128,7 @@ data-stays-by x p l (cancels k o e) = rw e refl
 data-stays-by x p l (reads k o e) = never l (lease-kind x 5 k)
 
 lease-stays-by : (x : Call) (p : Parts) → isLease x ≡ false → Kinds (x .request) → leaseSide (afterOf p (requestOf (x .request))) ≡ leaseSide p
-unfolding leaseSide afterOf after withBytes testWriteOf
+unfolding leaseSide afterOf maybe after withBytes testWriteOf
 lease-stays-by x p l (broken e) = rw e refl
 lease-stays-by x p l (tests k h o e) = rw e refl
 lease-stays-by x p l (adds k o e) = never (lease-kind x 2 k) l
@@ -135,7 +142,7 @@ stays-left side n x p e = side-choice side (eqb n 0) (afterOf p (requestOf (x .r
 
 -- no call changes the buffer's length
 room-after : (p : Parts) (r : Option Request) → afterOf p r .room ≡ p .room
-unfolding afterOf after withBytes withLeases
+unfolding afterOf maybe after withBytes withLeases
 room-after p none = refl
 room-after p (some (testWrite k ts ws cut)) = refl
 room-after p (some (add r)) = refl
@@ -174,22 +181,22 @@ hears-encode x p v = rw (outcome-encode p (x .request) (length (x .space)) v, pa
 
 leaves-encode : (x : Call) (p : Parts) → Valid p → leaves x (encode p) ≡ encode (ruleLeaves x p)
 unfolding leaves ruleLeaves ruleOutcome containerAfter
-leaves-encode x p v = rw (outcome-encode p (x .request) (length (x .space)) v, parts-encode p v) (go (eqb (lowest (requestRows p (requestOf (x .request)) (length (x .space)))) 0))
+leaves-encode x p v = rw (outcome-encode p (x .request) (length (x .space)) v, parts-encode p v) (go (eqb (firstRow (requestRows p (requestOf (x .request)) (length (x .space)))) 0))
   where
     go : (b : Bool) → cond b (encode (afterOf p (requestOf (x .request)))) (encode p) ≡ encode (cond b (afterOf p (requestOf (x .request))) p)
     go true = refl
     go false = refl
 
-valid-after : (p : Parts) (r : Option Request) (n : ℕ) → Valid p → ProperOption r → eqb (lowest (requestRows p r n)) 0 ≡ true → Valid (afterOf p r)
-unfolding requestRows afterOf
+valid-after : (p : Parts) (r : Option Request) (n : ℕ) → Valid p → ProperOption r → eqb (firstRow (requestRows p r n)) 0 ≡ true → Valid (afterOf p r)
+unfolding requestRows afterOf maybe
 valid-after p none n v q e = v
 valid-after p (some r) n v q e = after-valid p r n v q (eqb-true _ _ e)
 
 pub valid-left : (x : Call) (p : Parts) → Valid p → Valid (ruleLeaves x p)
 unfolding ruleLeaves ruleOutcome
-valid-left x p v = go (eqb (lowest (requestRows p (requestOf (x .request)) (length (x .space)))) 0) refl
+valid-left x p v = go (eqb (firstRow (requestRows p (requestOf (x .request)) (length (x .space)))) 0) refl
   where
-    go : (b : Bool) → eqb (lowest (requestRows p (requestOf (x .request)) (length (x .space)))) 0 ≡ b → Valid (cond b (afterOf p (requestOf (x .request))) p)
+    go : (b : Bool) → eqb (firstRow (requestRows p (requestOf (x .request)) (length (x .space)))) 0 ≡ b → Valid (cond b (afterOf p (requestOf (x .request))) p)
     go true e = valid-after p (requestOf (x .request)) (length (x .space)) v (request-proper (x .request)) e
     go false e = v
 

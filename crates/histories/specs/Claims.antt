@@ -4,10 +4,13 @@ use mathlib.Core.Path.{_≡_}
 use mathlib.Core.Bool.{true}
 use mathlib.Core.List.{List}
 use lib.ListN.{length, getD}
-use Rattle.format.specs.Container.{wellFormed, dataOf, leasesOf}
+use Rattle.format.specs.Container.{wellFormed}
+use Rattle.format.specs.Layout.{dataOf, leasesOf}
 use Rattle.format.specs.Parts.{Parts, encode}
-use Rattle.histories.specs.Runs.{Call, hears, leaves, ruleHears, ruleLeaves, answers, final, isLease, isData, beside, noRoom, Never, Woven}
-use Rattle.histories.specs.Accepted.{Change, sizeAfter, byteAfter, accepted}
+use Rattle.histories.specs.Runs.{Call, hears, leaves, ruleHears, ruleLeaves, answers, final, isLease, isData}
+use Rattle.histories.specs.Runs.{beside, noRoom, Never, Woven}
+use Rattle.rules.specs.Changes.{Change, sizeAfter, byteAfter}
+use Rattle.histories.specs.Accepted.{accepted}
 
 -- Two histories on the same container bytes: beside each read and test-and-write the same is heard in both, beside each
 -- lease request too, and the whole buffer ends the same.

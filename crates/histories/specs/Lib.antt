@@ -2,3 +2,4 @@
 pub mod Runs
 pub mod Accepted
 pub mod Claims
+pub mod Incident

@@ -8,7 +8,9 @@ use lib.Dec.{eqb, leb}
 use Rattle.octets.specs.Moves.{put}
 use Rattle.format.specs.Parts.{Parts}
 use Rattle.rules.specs.Requests.{kindOf, requestOf}
-use Rattle.rules.specs.Outcomes.{lowest, requestRows, replies, answerTo, afterOf, replyBytes, answered, containerAfter, replyAfter}
+use Rattle.octets.specs.Rows.{firstRow}
+use Rattle.rules.specs.Outcomes.{requestRows, replies, answerTo, afterOf, replyBytes, answered, containerAfter}
+use Rattle.rules.specs.Outcomes.{replyAfter}
 use Rattle.rules.specs.declared.Answer.{Answer}
 
 -- A call: any bytes as request, with its reply space. What is heard of it: the answer record and the reply space afterwards.
@@ -29,7 +31,7 @@ leaves x c = containerAfter c (x .request) (x .space)
 
 -- What the rules give for the parts alone: the same, computed with no container bytes.
 unfoldable pub ruleOutcome : Call → Parts → ℕ
-ruleOutcome x p = lowest (requestRows p (requestOf (x .request)) (length (x .space)))
+ruleOutcome x p = firstRow (requestRows p (requestOf (x .request)) (length (x .space)))
 
 unfoldable pub ruleHears : Call → Parts → Heard
 ruleHears x p = record {

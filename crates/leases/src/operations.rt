@@ -2,11 +2,12 @@
 ghost use mathlib.Core.Path.{_≡_};
 ghost use mathlib.Core.Bool.{true, false};
 ghost use lib.ListN.{length};
-ghost use Rattle.format.specs.Container.{held, renewalOf, leasesOf};
+ghost use Rattle.format.specs.Container.{held};
+ghost use Rattle.format.specs.Layout.{renewalOf, leasesOf, recordSize, secretSize};
 ghost use Rattle.rules.specs.Leasing.{renewedBy, knows};
 ghost use Rattle.format.specs.Parts.{partsOf};
 ghost use Rattle.rules.specs.Requests.{add, renew, cancel};
-ghost use Rattle.format.specs.Known.{Known};
+ghost use Rattle.format.specs.Judging.{Known};
 ghost use Rattle.leases.specs.Operations.{leaseDone, leaseContainer};
 use crate::changes::append_record;
 use crate::changes::drop_record;
@@ -16,6 +17,11 @@ use crate::places::Found;
 use crate::places::count_leases;
 use crate::places::find;
 use crate::places::find_vacant;
+use format::layout::CANCEL_AT;
+use format::layout::EXPIRY_AT;
+use format::layout::Frame;
+use format::layout::LEASE_LIMIT;
+use format::layout::RENEWAL_AT;
 
 // The outcome's number, and the leases present after the request where it is 0.
 pub struct Done {
@@ -24,34 +30,39 @@ pub struct Done {
 }
 
 // A record whose token is new goes to the first empty place, else to a new extra; 10 or 11 where it cannot.
-fn place_new(c: &mut [u8], size: usize, extras: usize, lease: &[u8]) -> Done
-    requires { ⌜ Known (now c) size extras × (length (now lease) ≡ 92) × (held (now lease) ≡ true) × (knows (renewedBy (renewalOf (now lease))) (leasesOf (now c)) ≡ false) ⌝ }
+fn place_new(c: &mut [u8], frame: Frame, lease: &[u8]) -> Done
+    requires { ⌜ Known (now c) frame × (length (now lease) ≡ recordSize) × (held (now lease) ≡ true)
+        × (knows (renewedBy (renewalOf (now lease))) (leasesOf (now c)) ≡ false) ⌝ }
     ensures { λ r. ⌜ r ≡ leaseDone (partsOf (now (c .entry))) (add (now (lease .entry))) ⌝ }
     ensures { λ _. ⌜ now (c .exit) ≡ leaseContainer (now (c .entry)) (add (now (lease .entry))) ⌝ }
 {
-    let count = count_leases(c, size, extras);
-    if 64 <= count {
+    let count = count_leases(c, frame);
+    if LEASE_LIMIT <= count {
         return Done {
             number: 10,
             count: 0,
         };
     }
-    match find_vacant(c, size, extras) {
+    match find_vacant(c, frame) {
         Found::At(i) => {
-            put_record(c, size, extras, i, lease);
+            put_record(c, frame, i, lease);
             Done {
                 number: 0,
                 count: count + 1,
             }
         }
         Found::Nowhere => {
-            if c.len() < 472 + size + 92 * (extras + 1) {
+            let more = Frame {
+                size: frame.size,
+                extras: frame.extras + 1,
+            };
+            if c.len() < more.used() {
                 return Done {
                     number: 11,
                     count: 0,
                 };
             }
-            append_record(c, size, extras, lease);
+            append_record(c, frame, lease);
             Done {
                 number: 0,
                 count: count + 1,
@@ -61,35 +72,33 @@ fn place_new(c: &mut [u8], size: usize, extras: usize, lease: &[u8]) -> Done
 }
 
 // A known renewal token keeps the later expiry.
-pub fn add_lease(c: &mut [u8], size: usize, extras: usize, lease: &[u8]) -> Done
-    requires { ⌜ Known (now c) size extras × (length (now lease) ≡ 92) × (held (now lease) ≡ true) ⌝ }
+pub fn add_lease(c: &mut [u8], frame: Frame, lease: &[u8]) -> Done
+    requires { ⌜ Known (now c) frame × (length (now lease) ≡ recordSize) × (held (now lease) ≡ true) ⌝ }
     ensures { λ r. ⌜ r ≡ leaseDone (partsOf (now (c .entry))) (add (now (lease .entry))) ⌝ }
     ensures { λ _. ⌜ now (c .exit) ≡ leaseContainer (now (c .entry)) (add (now (lease .entry))) ⌝ }
 {
-    let a = 8;
-    let e = 40;
-    match find(c, size, extras, 8, &lease[a..e]) {
+    match find(c, frame, RENEWAL_AT, &lease[RENEWAL_AT..CANCEL_AT]) {
         Found::At(i) => {
-            let count = count_leases(c, size, extras);
-            extend(c, size, extras, i, octets::numbers::u32_at(lease, 4));
+            let count = count_leases(c, frame);
+            extend(c, frame, i, octets::numbers::u32_at(lease, EXPIRY_AT));
             Done {
                 number: 0,
                 count: count,
             }
         }
-        Found::Nowhere => place_new(c, size, extras, lease),
+        Found::Nowhere => place_new(c, frame, lease),
     }
 }
 
-pub fn renew_lease(c: &mut [u8], size: usize, extras: usize, token: &[u8], expiry: u32) -> Done
-    requires { ⌜ Known (now c) size extras × (length (now token) ≡ 32) ⌝ }
+pub fn renew_lease(c: &mut [u8], frame: Frame, token: &[u8], expiry: u32) -> Done
+    requires { ⌜ Known (now c) frame × (length (now token) ≡ secretSize) ⌝ }
     ensures { λ r. ⌜ r ≡ leaseDone (partsOf (now (c .entry))) (renew (now (token .entry)) expiry) ⌝ }
     ensures { λ _. ⌜ now (c .exit) ≡ leaseContainer (now (c .entry)) (renew (now (token .entry)) expiry) ⌝ }
 {
-    match find(c, size, extras, 8, token) {
+    match find(c, frame, RENEWAL_AT, token) {
         Found::At(i) => {
-            let count = count_leases(c, size, extras);
-            extend(c, size, extras, i, expiry);
+            let count = count_leases(c, frame);
+            extend(c, frame, i, expiry);
             Done {
                 number: 0,
                 count: count,
@@ -102,15 +111,15 @@ pub fn renew_lease(c: &mut [u8], size: usize, extras: usize, token: &[u8], expir
     }
 }
 
-pub fn cancel_lease(c: &mut [u8], size: usize, extras: usize, token: &[u8]) -> Done
-    requires { ⌜ Known (now c) size extras × (length (now token) ≡ 32) ⌝ }
+pub fn cancel_lease(c: &mut [u8], frame: Frame, token: &[u8]) -> Done
+    requires { ⌜ Known (now c) frame × (length (now token) ≡ secretSize) ⌝ }
     ensures { λ r. ⌜ r ≡ leaseDone (partsOf (now (c .entry))) (cancel (now (token .entry))) ⌝ }
     ensures { λ _. ⌜ now (c .exit) ≡ leaseContainer (now (c .entry)) (cancel (now (token .entry))) ⌝ }
 {
-    match find(c, size, extras, 40, token) {
+    match find(c, frame, CANCEL_AT, token) {
         Found::At(i) => {
-            let count = count_leases(c, size, extras);
-            drop_record(c, size, extras, i);
+            let count = count_leases(c, frame);
+            drop_record(c, frame, i);
             Done {
                 number: 0,
                 count: count - 1,

@@ -1,11 +1,19 @@
 // The transcript, on standard output.
-use format::container::Judged;
+use format::judging::Judged;
+use format::layout::EXPIRY_AT;
+use format::layout::FIXED_PLACES;
+use format::layout::Frame;
+use format::layout::LEASES_AT;
+use format::layout::RECORD_SIZE;
 use libc::STDOUT_FILENO;
 use replaying::items::Fault;
+use requests::cursors::Cursor;
 use rules::Answer;
 ghost use Prim.Native.Nat.{_+_, _*_, _≤_, _<_};
 ghost use lib.ListN.{length};
 ghost use Rattle.io.specs.Counts.{Counts};
+ghost use Rattle.format.specs.Layout.{recordSize};
+ghost use Rattle.format.specs.Judging.{Known};
 
 // Longer data and more extra leases are shortened.
 const MOST_BYTES: usize = 128;
@@ -20,17 +28,11 @@ pub(crate) fn number(n: u64) {
     io::print_decimal(STDOUT_FILENO, n);
 }
 
-fn least(x: usize, y: usize) -> usize
-    ensures { λ r. ⌜ (r ≤ x) × (r ≤ y) ⌝ }
-{
-    if x < y { x } else { y }
-}
-
 // n, or all of s where that is less.
 pub(crate) fn clip(n: usize, s: &[u8]) -> usize
     ensures { λ r. ⌜ Counts r (now (s .entry)) ⌝ }
 {
-    least(n, s.len())
+    octets::choices::lesser(n, s.len())
 }
 
 // A number in five columns.
@@ -184,7 +186,9 @@ fn kind(q: &[u8]) {
         write(b"empty request   ");
         return;
     }
-    match q[0] {
+    let kind = Cursor::start().byte(q);
+    let value = kind.value;
+    match value {
         1 => write(b"test-and-write  "),
         2 => write(b"add a lease     "),
         3 => write(b"renew a lease   "),
@@ -231,8 +235,11 @@ fn reply(q: &[u8], r: &[u8]) {
     if q.len() < 2 {
         return;
     }
-    let n = wide(q[1]);
-    match q[0] {
+    let kind = Cursor::start().byte(q);
+    let count = kind.next.byte(q);
+    let n = wide(count.value);
+    let value = kind.value;
+    match value {
         1 => pieces(r, n),
         5 => pieces(r, n),
         _ => {}
@@ -253,7 +260,7 @@ pub(crate) fn applied(q: &[u8], x: Answer, r: &[u8]) {
 
 // The lease at p, if the place is not empty.
 fn lease(c: &[u8], p: usize, place: &[u8], i: usize)
-    requires { ⌜ p + 92 ≤ length (now c) ⌝ }
+    requires { ⌜ p + recordSize ≤ length (now c) ⌝ }
 {
     let owner = octets::numbers::u32_at(c, p);
     if owner == 0 {
@@ -265,36 +272,37 @@ fn lease(c: &[u8], p: usize, place: &[u8], i: usize)
     write(b": owner ");
     number(owner as u64);
     write(b", expiry ");
-    number(octets::numbers::u32_at(c, p + 4) as u64);
+    number(octets::numbers::u32_at(c, p + EXPIRY_AT) as u64);
     write(b"\n");
 }
 
 fn leases(c: &[u8], from: usize, n: usize, place: &[u8])
-    requires { ⌜ from + 92 * n ≤ length (now c) ⌝ }
+    requires { ⌜ from + recordSize * n ≤ length (now c) ⌝ }
 {
     let mut i = 0;
     let mut p = from;
     while i < n {
         i += 1;
         lease(c, p, place, i);
-        p += 92;
+        p += RECORD_SIZE;
     }
 }
 
-fn parts(c: &[u8], size: usize, extras: usize)
-    requires { ⌜ 472 + size + 92 * extras ≤ length (now c) ⌝ }
+fn parts(c: &[u8], frame: Frame)
+    requires { ⌜ Known (now c) frame ⌝ }
 {
+    let extras = frame.extras;
     write(b"the container   data size ");
-    number(size as u64);
+    number(frame.size as u64);
     write(b", used ");
-    number((472 + size + 92 * extras) as u64);
+    number(frame.used() as u64);
     write(b" of ");
     number(c.len() as u64);
     write(b" bytes\n");
-    bytes(format::container::data_of(c));
-    leases(c, 100, 4, b"place ");
-    let shown = least(extras, MOST_EXTRAS);
-    leases(c, 472 + size, shown, b"extra ");
+    bytes(container::data::data_of(c));
+    leases(c, LEASES_AT, FIXED_PLACES, b"place ");
+    let shown = octets::choices::lesser(extras, MOST_EXTRAS);
+    leases(c, frame.extras_at(), shown, b"extra ");
     if shown < extras {
         write(b"    ... and ");
         number((extras - shown) as u64);
@@ -304,10 +312,10 @@ fn parts(c: &[u8], size: usize, extras: usize)
 
 // What a container holds at its end.
 pub(crate) fn container(c: &[u8]) {
-    match format::container::judge(c) {
+    match format::judging::judge(c) {
         Judged::BadLength => write(b"the container   none: the buffer's length is not allowed\n"),
         Judged::Malformed => write(b"the container   none: the buffer is not well formed\n"),
-        Judged::Formed(size, extras) => parts(c, size, extras),
+        Judged::Formed(frame) => parts(c, frame),
     }
 }
 

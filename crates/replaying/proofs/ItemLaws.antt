@@ -13,7 +13,8 @@ use Rattle.octets.specs.Moves.{put}
 use Rattle.octets.proofs.MoveLaws.{put-put}
 use Rattle.octets.proofs.NumberLaws.{length-digits}
 use Rattle.replaying.specs.Numerals.{reaches}
-use Rattle.replaying.specs.Items.{inside, standsAt, numberOf, negativeOf, repeatOf, itemAt, bytesThen, lineBytes, rightThen, lineRight, Went}
+use Rattle.replaying.specs.Items.{inside, standsAt, numberOf, negativeOf, repeatOf, itemAt, bytesThen}
+use Rattle.replaying.specs.Items.{lineBytes, rightThen, lineRight, Went}
 use Rattle.replaying.specs.declared.numerals.Decimal.{Decimal}
 use Rattle.replaying.specs.declared.numerals.Decimal.the-variants.{Missing, TooLarge, Value}
 use Rattle.replaying.specs.declared.items.Fault.{Fault}

@@ -8,7 +8,9 @@ ghost use mathlib.Core.Path.{_≡_};
 ghost use Prim.Native.Nat.{_+_, _-_, _≤_, _<_};
 ghost use lib.ListN.{length, replicate};
 ghost use Rattle.octets.specs.Moves.{put};
-ghost use Rattle.replaying.specs.Items.{inside, textAt, negated, numberOf, negativeOf, repeatOf, standsAt, numberAt, repeatAt, itemHere, itemAt, lineRight, lineBytes, Stepped, Written};
+ghost use Rattle.replaying.specs.Items.{inside, textAt, negated, numberOf, negativeOf, repeatOf, standsAt};
+ghost use Rattle.replaying.specs.Items.{numberAt, repeatAt, itemHere, itemAt, lineRight, lineBytes, Stepped};
+ghost use Rattle.replaying.specs.Items.{Written};
 
 // Why a line is refused; the last three are for whoever runs the lines.
 pub enum Fault {

@@ -1,47 +1,73 @@
--- The pieces that tables ask for, a turn of a loop over a table, and the reply. Assumes nothing.
+-- The pieces that tables ask for, turns of the walks over a table, and the reply. Assumes nothing.
 use mathlib.Core.Path.{_≡_, refl, sym, ap, _∙_}
 use mathlib.Core.Bool.{Bool, true, false, cond, _&&_}
-use mathlib.Core.List.{List, [], _∷_, _++_, map, append-nil}
+use mathlib.Core.List.{List, [], _∷_, _++_, map}
 use Prim.Native.Nat.{ℕ, zero, suc, _+_, _*_, _-_, _≤_, _<_}
 use native.Mathlib.Nat.{mul-suc}
 use native.Mathlib.Omega.{arith}
 use lib.Dec.{ltb}
-use lib.ListN.{length, take, drop, length-append, length-take, length-drop, take-append-drop}
+use mir.Syntax.{w32}
+use mir.Val.{toZ, ofZ}
+use lib.ListN.{length, take, drop, length-append, length-take, length-drop}
+use Rattle.octets.specs.Lists.{every, anyOf}
 use Rattle.octets.specs.Moves.{put}
 use Rattle.octets.specs.Numbers.{digits}
 use Rattle.octets.specs.Strings.{Octets, order, join}
-use Rattle.octets.proofs.MoveLaws.{put-put}
+use Rattle.octets.proofs.ListLaws.{and-assoc, and-true}
+use Rattle.octets.proofs.MoveLaws.{put-put, put-end, put-apart, put-length}
 use Rattle.octets.proofs.NumberLaws.{length-digits}
-use Rattle.rules.specs.Requests.{entryOffset, entryCount, entryOpcode, entrySpecimen, allFrom, sumFrom, testsFrom, readsFrom}
-use Rattle.rules.specs.Testing.{resolves, position, piece, testPiece, readPiece, exceeds, decides, holds, every, anyOf, replyOf}
-use Rattle.requests.specs.Cursors.{entryAt, testEntryAt}
+use Rattle.format.specs.Layout.{limit}
+use Rattle.rules.specs.Requests.{entrySize, testSize, entryOffset, entryCount, entryOpcode, entrySpecimen, allFrom}
+use Rattle.rules.specs.Requests.{sumFrom, testsFrom, readsFrom, entryLimit}
+use Rattle.rules.specs.Testing.{resolves, position, piece, testPiece, readPiece, exceeds, decides, holds, replyOf}
+use Rattle.requests.specs.Cursors.{entryAt, testAt, bodyOf, bodyAt}
+use Rattle.requests.specs.Forms.{TableIn}
+use Rattle.requests.specs.Offsets.{resolvedOf}
+use Rattle.requests.proofs.CursorLaws.{position-below, count-below, entry-resolved}
+use Rattle.requests.proofs.FormLaws.{all-next, all-end, sum-next, times-next}
+use Rattle.replies.specs.Pieces.{piecesFrom, piecesIn, resolveFrom, exceedFrom, measuredOf}
 use Rattle.requests.specs.declared.cursors.Entry.{Entry}
 use Rattle.requests.specs.declared.cursors.TestEntry.{TestEntry}
-use Rattle.requests.proofs.CursorLaws.{position-below, count-below}
-use Rattle.replies.specs.Pieces.{piecesFrom, resolveFrom, Entries}
+use Rattle.requests.specs.declared.forms.Table.{Table}
+use Rattle.requests.specs.declared.offsets.Resolved.{Resolved}
+use Rattle.replies.specs.declared.pieces.Measured.{Measured}
 
 -- ---- the tests and reads of a request ask for the pieces of its table
-pub test-pieces : (n p b : ℕ) (q d : List ℕ) → map (testPiece d) (testsFrom n p b q) ≡ piecesFrom 12 n p q d
+pub test-pieces : (n p b : ℕ) (q d : List ℕ) → map (testPiece d) (testsFrom n p b q) ≡ piecesFrom testSize n p q d
 unfolding testPiece testsFrom piecesFrom
 test-pieces zero p b q d = refl
 test-pieces (suc n) p b q d =
-    ap (λ (l : List (List ℕ)). piece d (entryOffset p q) (entryCount p q) ∷ l) (test-pieces n (p + 12) (b + entrySpecimen p q) q d)
+    ap (λ (l : List (List ℕ)). piece d (entryOffset p q) (entryCount p q) ∷ l)
+    (test-pieces n (p + testSize) (b + entrySpecimen p q) q d)
 
-pub read-pieces : (n p : ℕ) (q d : List ℕ) → map (readPiece d) (readsFrom n p q) ≡ piecesFrom 8 n p q d
+pub read-pieces : (n p : ℕ) (q d : List ℕ) → map (readPiece d) (readsFrom n p q) ≡ piecesFrom entrySize n p q d
 unfolding readPiece readsFrom piecesFrom
 read-pieces zero p q d = refl
-read-pieces (suc n) p q d = ap (λ (l : List (List ℕ)). piece d (entryOffset p q) (entryCount p q) ∷ l) (read-pieces n (p + 8) q d)
+read-pieces (suc n) p q d =
+    ap (λ (l : List (List ℕ)). piece d (entryOffset p q) (entryCount p q) ∷ l) (read-pieces n (p + entrySize) q d)
 
-pub test-resolve : (n p b : ℕ) (q : List ℕ) (size : ℕ) → every (λ t. resolves (t .offset) size) (testsFrom n p b q) ≡ resolveFrom 12 n p q size
+pub test-resolve : (n p b : ℕ) (q : List ℕ) (size : ℕ)
+    → every (λ t. resolves (t .offset) size) (testsFrom n p b q) ≡ resolveFrom testSize n p q size
 unfolding every testsFrom resolveFrom allFrom
 test-resolve zero p b q size = refl
 test-resolve (suc n) p b q size =
-    ap (λ (r : Bool). resolves (entryOffset p q) size && r) (test-resolve n (p + 12) (b + entrySpecimen p q) q size)
+    ap (λ (r : Bool). resolves (entryOffset p q) size && r)
+    (test-resolve n (p + testSize) (b + entrySpecimen p q) q size)
 
-pub read-resolve : (n p : ℕ) (q : List ℕ) (size : ℕ) → every (λ r. resolves (r .offset) size) (readsFrom n p q) ≡ resolveFrom 8 n p q size
+pub read-resolve : (n p : ℕ) (q : List ℕ) (size : ℕ)
+    → every (λ r. resolves (r .offset) size) (readsFrom n p q) ≡ resolveFrom entrySize n p q size
 unfolding every readsFrom resolveFrom allFrom
 read-resolve zero p q size = refl
-read-resolve (suc n) p q size = ap (λ (r : Bool). resolves (entryOffset p q) size && r) (read-resolve n (p + 8) q size)
+read-resolve (suc n) p q size =
+    ap (λ (r : Bool). resolves (entryOffset p q) size && r) (read-resolve n (p + entrySize) q size)
+
+pub read-exceeds : (n p : ℕ) (q d : List ℕ)
+    → anyOf (exceeds d) (readsFrom n p q) ≡ exceedFrom entrySize n p q (length d)
+unfolding anyOf exceeds readsFrom exceedFrom
+read-exceeds zero p q d = refl
+read-exceeds (suc n) p q d =
+    ap (cond (ltb (length d) (position (entryOffset p q) (length d) + entryCount p q)) true)
+    (read-exceeds n (p + entrySize) q d)
 
 -- ---- lengths
 pub length-pieces : (stride n p : ℕ) (q d : List ℕ) → length (piecesFrom stride n p q d) ≡ n
@@ -59,136 +85,331 @@ length-table [] = refl
 length-table (s ∷ ps) =
     length-append (digits 4 (length s)) (tableOf ps) ∙ omega (arith, length-digits 4 (length s), length-table ps)
 
-pub length-reply : (ps : List (List ℕ)) → length (replyOf ps) ≡ 4 * length ps + length (join ps)
+length-reply : (ps : List (List ℕ)) → length (replyOf ps) ≡ 4 * length ps + length (join ps)
 unfolding replyOf
 length-reply ps = length-append (tableOf ps) (join ps) ∙ rw length-table
 
-reply-cons : (s : List ℕ) (ps : List (List ℕ)) → length (replyOf (s ∷ ps)) ≡ 4 + length s + length (replyOf ps)
+length-join : (s : List ℕ) (ps : List (List ℕ)) → length (join (s ∷ ps)) ≡ length s + length (join ps)
 unfolding join
-reply-cons s ps = omega (arith, length-reply (s ∷ ps), length-reply ps, length-append s (join ps))
+length-join s ps = length-append s (join ps)
+
+reply-none : length (replyOf []) ≡ 0
+unfolding replyOf join
+reply-none = refl
+
+reply-cons : (s : List ℕ) (ps : List (List ℕ)) → length (replyOf (s ∷ ps)) ≡ 4 + length s + length (replyOf ps)
+reply-cons s ps = omega (arith, length-reply (s ∷ ps), length-reply ps, length-join s ps)
 
 pub part-short : (d : List ℕ) (p n : ℕ) → length (take n (drop p d)) ≤ length d
 part-short d p n = simp (length-take, length-drop) (omega arith)
 
+reply-most : (stride n p : ℕ) (q d : List ℕ) → length d ≤ limit
+    → length (replyOf (piecesFrom stride n p q d)) ≤ (4 + limit) * n
+unfolding piecesFrom piece
+reply-most stride zero p q d h = omega (arith, reply-none)
+reply-most stride (suc n) p q d h =
+    omega (
+      arith,
+      reply-cons (piece d (entryOffset p q) (entryCount p q)) (piecesFrom stride n (p + stride) q d),
+      part-short d (position (entryOffset p q) (length d)) (entryCount p q),
+      reply-most stride n (p + stride) q d h,
+      mul-suc (4 + limit) n,
+    )
+
 -- ---- the first entry of a table and the rest
-step : (left : ℕ) → 0 < left → left ≡ suc (left - 1)
-step left h = omega arith
+module _ (stride left p : ℕ) (q d : List ℕ) (h : 0 < left) where
+  one : left ≡ suc (left - 1)
+  one = omega arith
 
-no-more : (left : ℕ) → left ≤ 0 → left ≡ 0
-no-more left h = omega arith
-
-times : (stride left : ℕ) → 0 < left → stride * left ≡ stride * (left - 1) + stride
-times stride left h = ap (λ (n : ℕ). stride * n) (step left h) ∙ mul-suc stride (left - 1)
-
-pub entries-here : {stride left p : ℕ} {q : List ℕ} → Entries stride left p q → 0 < left → p + stride ≤ length q
-entries-here {stride} {left} e h = omega (arith, times stride left h)
-
-pub entries-next : {stride left p : ℕ} {q : List ℕ} → Entries stride left p q → 0 < left → Entries stride (left - 1) (p + stride) q
-entries-next {stride} {left} e h = record { wide = e .wide; narrow = e .narrow; few = omega arith; inside = omega (arith, times stride left h) }
-
-module _ (stride left p : ℕ) (q : List ℕ) where
-  pub resolve-next : (size : ℕ) → 0 < left → resolveFrom stride left p q size ≡ resolves (entryOffset p q) size && resolveFrom stride (left - 1) (p + stride) q size
-  unfolding resolveFrom allFrom
-  resolve-next size h = ap (λ (n : ℕ). resolveFrom stride n p q size) (step left h)
-
-  pub resolve-end : (size : ℕ) → left ≤ 0 → resolveFrom stride left p q size ≡ true
-  unfolding resolveFrom allFrom
-  resolve-end size h = ap (λ (n : ℕ). resolveFrom stride n p q size) (no-more left h)
-
--- The pieces of a table: one after the other, their lengths in a table, and the length of their reply.
-module _ (stride left p : ℕ) (q d : List ℕ) where
-  pieces-next : 0 < left → piecesFrom stride left p q d ≡ piece d (entryOffset p q) (entryCount p q) ∷ piecesFrom stride (left - 1) (p + stride) q d
+  pieces-next : piecesFrom stride left p q d
+      ≡ piece d (entryOffset p q) (entryCount p q) ∷ piecesFrom stride (left - 1) (p + stride) q d
   unfolding piecesFrom
-  pieces-next h = ap (λ (n : ℕ). piecesFrom stride n p q d) (step left h)
+  pieces-next = ap (λ (n : ℕ). piecesFrom stride n p q d) one
 
-  pieces-end : left ≤ 0 → piecesFrom stride left p q d ≡ []
-  unfolding piecesFrom
-  pieces-end h = ap (λ (n : ℕ). piecesFrom stride n p q d) (no-more left h)
+  resolve-next : resolveFrom stride left p q (length d)
+      ≡ (resolves (entryOffset p q) (length d) && resolveFrom stride (left - 1) (p + stride) q (length d))
+  unfolding resolveFrom
+  resolve-next = all-next stride left p h (λ k. resolves (entryOffset k q) (length d))
 
-  pub join-next : 0 < left → join (piecesFrom stride left p q d) ≡ piece d (entryOffset p q) (entryCount p q) ++ join (piecesFrom stride (left - 1) (p + stride) q d)
-  unfolding join
-  join-next h = ap join (pieces-next h)
+  exceed-next : exceedFrom stride left p q (length d)
+      ≡ cond (ltb (length d) (position (entryOffset p q) (length d) + entryCount p q)) true
+      (exceedFrom stride (left - 1) (p + stride) q (length d))
+  unfolding exceedFrom
+  exceed-next = ap (λ (n : ℕ). exceedFrom stride n p q (length d)) one
 
-  pub join-end : left ≤ 0 → join (piecesFrom stride left p q d) ≡ []
-  unfolding join
-  join-end h = ap join (pieces-end h)
-
-  pub table-next : 0 < left → tableOf (piecesFrom stride left p q d)
-      ≡ digits 4 (length (piece d (entryOffset p q) (entryCount p q))) ++ tableOf (piecesFrom stride (left - 1) (p + stride) q d)
-  unfolding join
-  table-next h = ap tableOf (pieces-next h)
-
-  pub table-end : left ≤ 0 → tableOf (piecesFrom stride left p q d) ≡ []
-  unfolding join
-  table-end h = ap tableOf (pieces-end h)
-
-  pub reply-next : 0 < left → length (replyOf (piecesFrom stride left p q d))
-      ≡ 4 + length (piece d (entryOffset p q) (entryCount p q)) + length (replyOf (piecesFrom stride (left - 1) (p + stride) q d))
-  reply-next h = ap (λ (ps : List (List ℕ)). length (replyOf ps)) (pieces-next h) ∙ reply-cons _ _
-
-  pub reply-end : left ≤ 0 → length (replyOf (piecesFrom stride left p q d)) ≡ 0
-  unfolding replyOf join
-  reply-end h = ap (λ (ps : List (List ℕ)). length (replyOf ps)) (pieces-end h)
-
-module _ (left p : ℕ) (q d : List ℕ) where
-  pub exceed-next : 0 < left → anyOf (exceeds d) (readsFrom left p q)
-      ≡ cond (ltb (length d) (position (entryOffset p q) (length d) + entryCount p q)) true (anyOf (exceeds d) (readsFrom (left - 1) (p + 8) q))
-  unfolding anyOf exceeds readsFrom
-  exceed-next h = ap (λ (n : ℕ). anyOf (exceeds d) (readsFrom n p q)) (step left h)
-
-  pub exceed-end : left ≤ 0 → anyOf (exceeds d) (readsFrom left p q) ≡ false
-  unfolding anyOf readsFrom
-  exceed-end h = ap (λ (n : ℕ). anyOf (exceeds d) (readsFrom n p q)) (no-more left h)
-
-  pub hold-next : (b : ℕ) → 0 < left → every (holds d) (testsFrom left p b q)
-      ≡ decides (entryOpcode p q) (order (piece d (entryOffset p q) (entryCount p q)) (take (entrySpecimen p q) (drop b q)))
-      && every (holds d) (testsFrom (left - 1) (p + 12) (b + entrySpecimen p q) q)
+  hold-next : (b : ℕ) → every (holds d) (testsFrom left p b q)
+      ≡ (decides (entryOpcode p q)
+      (order (piece d (entryOffset p q) (entryCount p q)) (take (entrySpecimen p q) (drop b q)))
+      && every (holds d) (testsFrom (left - 1) (p + testSize) (b + entrySpecimen p q) q))
   unfolding every holds testPiece testsFrom
-  hold-next b h = ap (λ (n : ℕ). every (holds d) (testsFrom n p b q)) (step left h)
+  hold-next b = ap (λ (n : ℕ). every (holds d) (testsFrom n p b q)) one
 
-  pub hold-end : (b : ℕ) → left ≤ 0 → every (holds d) (testsFrom left p b q) ≡ true
+-- No entry is left.
+module _ (stride left p : ℕ) (q d : List ℕ) (h : left ≤ 0) where
+  none-left : left ≡ 0
+  none-left = omega arith
+
+  pieces-end : piecesFrom stride left p q d ≡ []
+  unfolding piecesFrom
+  pieces-end = ap (λ (n : ℕ). piecesFrom stride n p q d) none-left
+
+  resolve-end : resolveFrom stride left p q (length d) ≡ true
+  unfolding resolveFrom
+  resolve-end = all-end stride left p h (λ k. resolves (entryOffset k q) (length d))
+
+  exceed-end : exceedFrom stride left p q (length d) ≡ false
+  unfolding exceedFrom
+  exceed-end = ap (λ (n : ℕ). exceedFrom stride n p q (length d)) none-left
+
+  hold-end : (b : ℕ) → every (holds d) (testsFrom left p b q) ≡ true
   unfolding every testsFrom
-  hold-end b h = ap (λ (n : ℕ). every (holds d) (testsFrom n p b q)) (no-more left h)
+  hold-end b = ap (λ (n : ℕ). every (holds d) (testsFrom n p b q)) none-left
 
-pub sum-next : (f : ℕ → ℕ) (stride left p : ℕ) → 0 < left → sumFrom f stride left p ≡ f p + sumFrom f stride (left - 1) (p + stride)
-unfolding sumFrom
-sum-next f stride left p h = ap (λ (n : ℕ). sumFrom f stride n p) (step left h)
+-- ---- the entry at p, as the code has read it: x, resolved to r
+pub record Reading (p stride : ℕ) (q d : List ℕ) (x : Entry) (r : Resolved) : Type 0 where
+  pub entry : x ≡ entryAt p stride q
+  pub place : r ≡ resolvedOf (entryOffset p q) (length d)
 
--- ---- what a cursor read
-module _ (p : ℕ) (q d : List ℕ) (x : Entry) (is : x ≡ entryAt p q (length d)) where
+pub reading : {p stride : ℕ} {q d : List ℕ} {x : Entry} {r : Resolved} → Octets q → x ≡ entryAt p stride q
+    → r ≡ resolvedOf (toZ w32 (ofZ w32 (x .offset))) (length d) → Reading p stride q d x r
+reading {p} {stride} {q} {d} {x} {r} o e f = record {
+  entry = e;
+  place = entry-resolved p q (length d) (x .offset) r o (ap (λ (y : Entry). y .offset) e) f;
+}
+
+module _ {p stride : ℕ} {q d : List ℕ} {x : Entry} {r : Resolved} (E : Reading p stride q d x r) where
+  reading-count : x .count ≡ entryCount p q
+  reading-count = ap (λ (y : Entry). y .count) (E .entry)
+
+  reading-position : r .position ≡ position (entryOffset p q) (length d)
+  reading-position = ap (λ (y : Resolved). y .position) (E .place)
+
+  reading-resolves : r .resolves ≡ resolves (entryOffset p q) (length d)
+  reading-resolves = ap (λ (y : Resolved). y .resolves) (E .place)
+
+  pub reading-next : x .next .at ≡ p + stride
+  reading-next = ap (λ (y : Entry). y .next .at) (E .entry)
+
   -- The piece that the code takes is the entry's.
-  pub entry-piece : take (x .count) (drop (x .position) d) ≡ piece d (entryOffset p q) (entryCount p q)
+  pub reading-piece : take (x .count) (drop (r .position) d) ≡ piece d (entryOffset p q) (entryCount p q)
   unfolding piece
-  entry-piece = rw is
+  reading-piece = rw (reading-count, reading-position)
 
-  pub entry-reach : x .position + x .count ≡ position (entryOffset p q) (length d) + entryCount p q
-  entry-reach = rw is
+  -- Position and length add up without wrapping.
+  pub reading-reach : Octets q → r .position + x .count < 2147483648 + 4294967296
+  reading-reach o =
+      omega (arith, reading-count, reading-position, position-below p q (length d), count-below p q o)
 
--- An entry's position and length add up without wrapping.
-pub reach-bound : (p : ℕ) (q : List ℕ) (size : ℕ) → Octets q → position (entryOffset p q) size + entryCount p q < 8589934592
-reach-bound p q size o = omega (arith, position-below p q size, count-below p q o)
+-- ---- measuring
+either-assoc : (a b c : Bool) → cond (cond a true b) true c ≡ cond a true (cond b true c)
+either-assoc true b c = refl
+either-assoc false b c = refl
 
-pub test-next : (p r : ℕ) (q : List ℕ) (x : TestEntry) → r ≡ p + 8 → x ≡ testEntryAt r q
-    → (x .opcode ≡ entryOpcode p q) × (x .specimen ≡ entrySpecimen p q) × (x .next .at ≡ p + 12)
-unfolding entryOpcode entrySpecimen
-test-next p r q x e is =
-    let f : r + 2 ≡ p + 10 = omega arith in
-    let g : r + 4 ≡ p + 12 = omega arith in
-    (rw (is, e), rw (is, f), rw (is, g))
+either-false : (b : Bool) → cond b true false ≡ b
+either-false true = refl
+either-false false = refl
 
--- ---- writing one thing after the other
--- All that is left, put at `to`, is its first part put there, and then the rest right behind.
-pub put-next : (to b : ℕ) (all x y l : List ℕ) → all ≡ x ++ y → to ≤ length l → b ≡ to + length x → put to all l ≡ put b y (put to x l)
-put-next to b all x y l e h k = ap (λ (w : List ℕ). put to w l) e ∙ sym (put-put to b x y l h k)
+-- What is left of the table t, with what has been measured so far.
+pub record Measuring (t : Table) (q d : List ℕ) (m : Measured) (at left : ℕ) : Type 0 where
+  pub reaches : at + t .stride * left ≤ length q
+  pub resolved : (m .resolves && resolveFrom (t .stride) left at q (length d))
+      ≡ resolveFrom (t .stride) (t .count) (t .first .at) q (length d)
+  pub exceeded : cond (m .exceeds) true (exceedFrom (t .stride) left at q (length d))
+      ≡ exceedFrom (t .stride) (t .count) (t .first .at) q (length d)
+  pub summed : m .length + length (replyOf (piecesFrom (t .stride) left at q d)) ≡ length (replyOf (piecesIn t q d))
 
-pub put-end : (to : ℕ) (all l : List ℕ) → all ≡ [] → put to all l ≡ l
-put-end to all l e =
-    let z : to + 0 ≡ to = omega arith in
-    ap (λ (w : List ℕ). put to w l) e ∙ rw (append-nil, z) (take-append-drop to l)
+pub measuring-start : (t : Table) (q d : List ℕ) → TableIn q t
+    → Measuring t q d (record { resolves = true; exceeds = false; length = 0 }) (t .first .at) (t .count)
+measuring-start t q d h = record { reaches = h .inside; resolved = refl; exceeded = refl; summed = omega arith }
 
+module _ {t : Table} {q d : List ℕ} {m : Measured} {at left : ℕ} (M : Measuring t q d m at left) where
+  measuring-sum : (h : 0 < left)
+      → let s = piece d (entryOffset at q) (entryCount at q) in
+      let rest = piecesFrom (t .stride) (left - 1) (at + t .stride) q d in
+      m .length + (4 + length s) + length (replyOf rest) ≡ length (replyOf (piecesIn t q d))
+  measuring-sum h =
+      let s = piece d (entryOffset at q) (entryCount at q) in
+      let rest = piecesFrom (t .stride) (left - 1) (at + t .stride) q d in
+      let e = ap (λ (ps : List (List ℕ)). length (replyOf ps)) (pieces-next (t .stride) left at q d h) in
+      omega (arith, M .summed, reply-cons s rest)
+
+  module _ (h : 0 < left) {x : Entry} {r : Resolved} (E : Reading at (t .stride) q d x r) (s : List ℕ)
+      (is : s ≡ take (x .count) (drop (r .position) d)) where
+    measuring-piece : length s ≡ length (piece d (entryOffset at q) (entryCount at q))
+    measuring-piece = ap length (is ∙ reading-piece E)
+
+    -- The lengths add up without wrapping.
+    pub measuring-bound : TableIn q t → length d ≤ limit → m .length + (4 + length s) ≤ (4 + limit) * entryLimit
+    measuring-bound T l =
+        omega (arith, measuring-sum h, measuring-piece, reply-most (t .stride) (t .count) (t .first .at) q d l, T .few)
+
+    pub measuring-next : (a b : Bool) → a ≡ (m .resolves && r .resolves)
+        → b ≡ cond (m .exceeds) true (ltb (length d) (r .position + x .count))
+        → Measuring t q d (record { resolves = a; exceeds = b; length = m .length + (4 + length s) }) (x .next .at)
+        (left - 1)
+    measuring-next a b f g =
+        let y = resolveFrom (t .stride) (left - 1) (at + t .stride) q (length d) in
+        let z = exceedFrom (t .stride) (left - 1) (at + t .stride) q (length d) in
+        rw (reading-next E) (record {
+          reaches = omega (arith, M .reaches, times-next (t .stride) left at h);
+          resolved =
+              rw (f, reading-resolves E) (and-assoc (m .resolves) (resolves (entryOffset at q) (length d)) y)
+              ∙ ap (λ (k : Bool). m .resolves && k) (sym (resolve-next (t .stride) left at q d h)) ∙ M .resolved;
+          exceeded =
+              rw (g, reading-position E, reading-count E)
+              (either-assoc (m .exceeds) (ltb (length d) (position (entryOffset at q) (length d) + entryCount at q)) z)
+              ∙ ap (cond (m .exceeds) true) (sym (exceed-next (t .stride) left at q d h)) ∙ M .exceeded;
+          summed = rw measuring-piece (measuring-sum h);
+        })
+
+  pub measuring-end : left ≤ 0 → m ≡ measuredOf t q d
+  measuring-end h =
+      let a : m .resolves ≡ resolveFrom (t .stride) (t .count) (t .first .at) q (length d) =
+      sym (and-true (m .resolves))
+      ∙ ap (λ (k : Bool). m .resolves && k) (sym (resolve-end (t .stride) left at q d h)) ∙ M .resolved in
+      let b : m .exceeds ≡ exceedFrom (t .stride) (t .count) (t .first .at) q (length d) =
+      sym (either-false (m .exceeds))
+      ∙ ap (cond (m .exceeds) true) (sym (exceed-end (t .stride) left at q d h)) ∙ M .exceeded in
+      let e : length (replyOf (piecesFrom (t .stride) left at q d)) ≡ 0 =
+      ap (λ (ps : List (List ℕ)). length (replyOf ps)) (pieces-end (t .stride) left at q d h) ∙ reply-none in
+      let c : m .length ≡ length (replyOf (piecesIn t q d)) = omega (arith, M .summed) in
+      rw (← a, ← b, ← c)
+
+-- ---- writing
 -- The table, and the pieces right behind it.
-pub put-reply : (n : ℕ) (ps : List (List ℕ)) (l : List ℕ) → length ps ≡ n → put (4 * n) (join ps) (put 0 (tableOf ps) l) ≡ put 0 (replyOf ps) l
+put-reply : (n : ℕ) (ps : List (List ℕ)) (l : List ℕ) → length ps ≡ n
+    → put (4 * n) (join ps) (put 0 (tableOf ps) l) ≡ put 0 (replyOf ps) l
 unfolding replyOf
 put-reply n ps l e =
     let k : 4 * n ≡ 0 + length (tableOf ps) = omega (arith, length-table ps) in
     put-put 0 (4 * n) (tableOf ps) (join ps) l (omega arith) k
+
+-- The first length and the first piece, and then the rest behind both.
+put-turn : (to behind : ℕ) (s : List ℕ) (ps : List (List ℕ)) (l : List ℕ) → to + 4 + 4 * length ps ≤ behind
+    → behind + length (join (s ∷ ps)) ≤ length l
+    → put behind (join (s ∷ ps)) (put to (tableOf (s ∷ ps)) l)
+    ≡ put (behind + length s) (join ps) (put (to + 4) (tableOf ps) (put behind s (put to (digits 4 (length s)) l)))
+unfolding join
+put-turn to behind s ps l h k =
+    let w : List ℕ = digits 4 (length s) in
+    let lw : length w ≡ 4 = length-digits 4 (length s) in
+    let l' : List ℕ = put to w l in
+    let ll : length l' ≡ length l = put-length to w l (omega arith) in
+    let lt : length (tableOf ps) ≡ 4 * length ps = length-table ps in
+    let lj : length (s ++ join ps) ≡ length s + length (join ps) = length-append s (join ps) in
+    let lp : length (put (to + 4) (tableOf ps) l') ≡ length l' = put-length (to + 4) (tableOf ps) l' (omega arith) in
+    let e : put to (w ++ tableOf ps) l ≡ put (to + 4) (tableOf ps) l' =
+    sym (put-put to (to + 4) w (tableOf ps) l (omega arith) (omega arith)) in
+    ap (put behind (s ++ join ps)) e
+    ∙ sym (put-put behind (behind + length s) s (join ps) (put (to + 4) (tableOf ps) l') (omega arith) refl)
+    ∙ ap (put (behind + length s) (join ps))
+    (sym (put-apart (to + 4) behind (tableOf ps) s l' (omega arith) (omega arith)))
+
+-- What is left of the table t, put into r, is the whole reply, put into r₀.
+pub record Writing (t : Table) (q d r₀ r : List ℕ) (to behind at left : ℕ) : Type 0 where
+  pub reaches : at + t .stride * left ≤ length q
+  pub apart : to + 4 * left ≤ behind
+  pub room : behind + length (join (piecesFrom (t .stride) left at q d)) ≤ length r
+  pub same : length r ≡ length r₀
+  pub written :
+      let rest = piecesFrom (t .stride) left at q d in
+      put behind (join rest) (put to (tableOf rest) r) ≡ put 0 (replyOf (piecesIn t q d)) r₀
+
+pub writing-start : (t : Table) (q d r : List ℕ) → TableIn q t → length (replyOf (piecesIn t q d)) ≤ length r
+    → Writing t q d r r 0 (4 * t .count) (t .first .at) (t .count)
+writing-start t q d r h k =
+    let e : length (piecesIn t q d) ≡ t .count = length-pieces (t .stride) (t .count) (t .first .at) q d in
+    record {
+      reaches = h .inside;
+      apart = omega arith;
+      room = omega (arith, length-reply (piecesIn t q d));
+      same = refl;
+      written = put-reply (t .count) (piecesIn t q d) r e;
+    }
+
+module _ {t : Table} {q d r₀ r : List ℕ} {to behind at left : ℕ} (W : Writing t q d r₀ r to behind at left) where
+  module _ (h : 0 < left) {x : Entry} {p : Resolved} (E : Reading at (t .stride) q d x p) (s : List ℕ)
+      (is : s ≡ take (x .count) (drop (p .position) d)) where
+    abbrev rest : List (List ℕ)
+    rest = piecesFrom (t .stride) (left - 1) (at + t .stride) q d
+
+    writing-pieces : piecesFrom (t .stride) left at q d ≡ s ∷ rest
+    writing-pieces =
+        pieces-next (t .stride) left at q d h ∙ ap (λ (y : List ℕ). y ∷ rest) (sym (is ∙ reading-piece E))
+
+    -- The piece has room, with those behind it.
+    pub writing-room : behind + length s + length (join rest) ≤ length r
+    writing-room =
+        let e = ap (λ (ps : List (List ℕ)). length (join ps)) writing-pieces in
+        omega (arith, W .room, length-join s rest)
+
+    pub writing-next : Writing t q d r₀ (put behind s (put to (digits 4 (length s)) r)) (to + 4) (behind + length s)
+        (x .next .at) (left - 1)
+    writing-next =
+        let w : List ℕ = digits 4 (length s) in
+        let lw : length w ≡ 4 = length-digits 4 (length s) in
+        let room = writing-room in
+        let lr : length (put to w r) ≡ length r = put-length to w r (omega (arith, W .apart)) in
+        let ls : length (put behind s (put to w r)) ≡ length (put to w r) =
+        put-length behind s (put to w r) (omega arith) in
+        let lp : length rest ≡ left - 1 = length-pieces (t .stride) (left - 1) (at + t .stride) q d in
+        rw (reading-next E) (record {
+          reaches = omega (arith, W .reaches, times-next (t .stride) left at h);
+          apart = omega (arith, W .apart);
+          room = omega arith;
+          same = omega (arith, W .same);
+          written =
+              sym (put-turn to behind s rest r (omega (arith, W .apart)) (omega (arith, length-join s rest)))
+              ∙ (rw writing-pieces at (W .written));
+        })
+
+  pub writing-end : left ≤ 0 → r ≡ put 0 (replyOf (piecesIn t q d)) r₀
+  unfolding join
+  writing-end h =
+      let e = pieces-end (t .stride) left at q d h in
+      sym (put-end behind _ _ (ap join e) ∙ put-end to _ r (ap tableOf e)) ∙ W .written
+
+-- ---- testing
+-- Whether the test at p holds, its specimen standing at b.
+abbrev pub holdsAt : ℕ → ℕ → List ℕ → List ℕ → Bool
+holdsAt p b q d =
+    decides (entryOpcode p q) (order (piece d (entryOffset p q) (entryCount p q)) (take (entrySpecimen p q) (drop b q)))
+
+-- The test as the code has read it: x, its place r, its piece s and its specimen u.
+pub read-holds : (b : ℕ) {p : ℕ} {q d s u : List ℕ} {x : TestEntry} {r : Resolved} → x ≡ testAt p q
+    → Reading p entrySize q d (x .entry) r → s ≡ take (x .entry .count) (drop (r .position) d)
+    → u ≡ bodyOf (bodyAt b (x .specimen)) q → decides (x .opcode) (order s u) ≡ holdsAt p b q d
+read-holds b {p} {q} e E f g =
+    let m : b + entrySpecimen p q - b ≡ entrySpecimen p q = omega arith in
+    rw (f ∙ reading-piece E, g, e, m)
+
+-- What is left of n tests from p on, with specimens from b on, decides like the whole.
+pub record Holding (q d : List ℕ) (p n b at left body : ℕ) : Type 0 where
+  pub reaches : at + testSize * left ≤ length q
+  pub specimens : body + sumFrom (λ i. entrySpecimen i q) testSize left at ≤ length q
+  pub held : every (holds d) (testsFrom left at body q) ≡ every (holds d) (testsFrom n p b q)
+
+module _ {q d : List ℕ} {p n b at left body : ℕ} (H : Holding q d p n b at left body) where
+  pub holding-end : left ≤ 0 → true ≡ every (holds d) (testsFrom n p b q)
+  holding-end h = sym (hold-end testSize left at q d h body) ∙ H .held
+
+  module _ (h : 0 < left) where
+    -- The specimen lies inside the request.
+    pub holding-specimen : body + entrySpecimen at q ≤ length q
+    holding-specimen = omega (arith, H .specimens, sum-next testSize left at h (λ i. entrySpecimen i q))
+
+    holding-turn : (holdsAt at body q d
+        && every (holds d) (testsFrom (left - 1) (at + testSize) (body + entrySpecimen at q) q))
+        ≡ every (holds d) (testsFrom n p b q)
+    holding-turn = sym (hold-next testSize left at q d h body) ∙ H .held
+
+    pub holding-false : holdsAt at body q d ≡ false → false ≡ every (holds d) (testsFrom n p b q)
+    holding-false e = rw e at holding-turn
+
+    pub holding-next : {x : TestEntry} → x ≡ testAt at q → holdsAt at body q d ≡ true
+        → Holding q d p n b (x .next .at) (left - 1) (body + x .specimen)
+    holding-next is e = rw is (record {
+      reaches = omega (arith, H .reaches, times-next testSize left at h);
+      specimens = omega (arith, H .specimens, sum-next testSize left at h (λ i. entrySpecimen i q));
+      held = rw e at holding-turn;
+    })

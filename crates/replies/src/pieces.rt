@@ -1,14 +1,28 @@
 // What the entries of a table ask of the data: positions and pieces. The data is lent, and nothing is copied.
 ghost use mathlib.Core.Path.{_≡_};
-ghost use Prim.Native.Nat.{_+_, _≤_};
+ghost use Prim.Native.Nat.{_≤_};
 ghost use lib.ListN.{length, take, drop};
-ghost use Rattle.rules.specs.Requests.{readsFrom};
-ghost use Rattle.rules.specs.Testing.{exceeds, anyOf, replyOf};
-ghost use Rattle.replies.specs.Pieces.{piecesFrom, resolveFrom, Entries};
-use requests::cursors::Cursor;
+ghost use Rattle.format.specs.Layout.{limit};
+ghost use Rattle.requests.specs.Forms.{TableIn};
+ghost use Rattle.replies.specs.Pieces.{measuredOf};
+use octets::choices::both;
+use octets::choices::either;
+use requests::forms::Table;
+use requests::offsets::resolve;
+
+// The width of a piece's length in a reply.
+pub const LENGTH_SIZE: usize = 4;
+
+// What a table asks, in numbers: whether every offset resolves, whether some entry reaches past the end of data, and
+// the length of the reply.
+pub struct Measured {
+    pub resolves: bool,
+    pub exceeds: bool,
+    pub length: usize,
+}
 
 // At most n bytes from a position on, stopping at the end of data.
-pub fn piece(d: &[u8], position: usize, n: usize) -> &[u8]
+pub(crate) fn piece(d: &[u8], position: usize, n: usize) -> &[u8]
     ensures { λ r. ⌜ now r ≡ take n (drop position (now (d .entry))) ⌝ }
 {
     let size = d.len();
@@ -22,56 +36,29 @@ pub fn piece(d: &[u8], position: usize, n: usize) -> &[u8]
     &d[position..end]
 }
 
-// Every offset of the table resolves.
-pub fn all_resolve(q: &[u8], from: usize, n: usize, stride: usize, size: usize) -> bool
-    requires { ⌜ Entries stride n from (now q) ⌝ }
-    ensures { λ r. ⌜ r ≡ resolveFrom stride n from (now (q .entry)) size ⌝ }
-{
-    let mut left = n;
-    let mut at = from;
-    while 0 < left {
-        let entry = Cursor { at: at }.entry(q, size);
-        if !entry.resolves {
-            return false;
-        }
-        at += stride;
-        left -= 1;
-    }
-    true
-}
-
-// Some read's offset plus length exceeds the size.
-pub fn any_exceeds(d: &[u8], q: &[u8], from: usize, n: usize) -> bool
-    requires { ⌜ Entries 8 n from (now q) ⌝ }
-    ensures { λ r. ⌜ r ≡ anyOf (exceeds (now (d .entry))) (readsFrom n from (now (q .entry))) ⌝ }
+// One pass over the table.
+pub fn measure(d: &[u8], q: &[u8], t: Table) -> Measured
+    requires { ⌜ TableIn (now q) t × (length (now d) ≤ limit) ⌝ }
+    ensures { λ r. ⌜ r ≡ measuredOf t (now (q .entry)) (now (d .entry)) ⌝ }
 {
     let size = d.len();
-    let mut left = n;
-    let mut at = from;
+    let mut left = t.count;
+    let mut cursor = t.first;
+    let mut resolves = true;
+    let mut exceeds = false;
+    let mut length = 0;
     while 0 < left {
-        let entry = Cursor { at: at }.entry(q, size);
-        if size < entry.position + entry.count {
-            return true;
-        }
-        at += 8;
+        let entry = cursor.entry(q, t.stride);
+        let place = resolve(entry.offset, size);
+        resolves = both(resolves, place.resolves);
+        exceeds = either(exceeds, size < place.position + entry.count);
+        length += LENGTH_SIZE + piece(d, place.position, entry.count).len();
+        cursor = entry.next;
         left -= 1;
     }
-    false
-}
-
-// The length of the whole reply: 4 bytes and the piece for each entry.
-pub fn reply_length(d: &[u8], q: &[u8], from: usize, n: usize, stride: usize) -> usize
-    requires { ⌜ Entries stride n from (now q) × (length (now d) ≤ 65536) ⌝ }
-    ensures { λ r. ⌜ r ≡ length (replyOf (piecesFrom stride n from (now (q .entry)) (now (d .entry)))) ⌝ }
-{
-    let mut left = n;
-    let mut at = from;
-    let mut sum = 0;
-    while 0 < left {
-        let entry = Cursor { at: at }.entry(q, d.len());
-        sum += 4 + piece(d, entry.position, entry.count).len();
-        at += stride;
-        left -= 1;
+    Measured {
+        resolves: resolves,
+        exceeds: exceeds,
+        length: length,
     }
-    sum
 }

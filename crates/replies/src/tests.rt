@@ -1,11 +1,11 @@
 // The tests of a test-and-write.
 ghost use mathlib.Core.Path.{_≡_};
-ghost use Prim.Native.Nat.{_+_, _≤_};
-ghost use lib.ListN.{length};
-ghost use Rattle.rules.specs.Requests.{testsFrom, entrySpecimen, sumFrom};
-ghost use Rattle.rules.specs.Testing.{decides, holds, every};
-ghost use Rattle.replies.specs.Pieces.{Entries};
-use requests::cursors::Cursor;
+ghost use Rattle.octets.specs.Lists.{every};
+ghost use Rattle.rules.specs.Testing.{decides, holds};
+ghost use Rattle.requests.specs.Forms.{PartedIn, testsIn};
+use crate::pieces::piece;
+use requests::forms::Parted;
+use requests::offsets::resolve;
 
 // What an opcode makes of -1, 0 or 1.
 fn decide(opcode: u8, order: i32) -> bool
@@ -29,25 +29,27 @@ fn decide(opcode: u8, order: i32) -> bool
     0 < order
 }
 
-// Every test holds: each piece against its specimen, the specimens standing one after the other from `bodies` on.
-pub fn all_hold(d: &[u8], q: &[u8], from: usize, n: usize, bodies: usize) -> bool
-    requires { ⌜ Entries 12 n from (now q) × (bodies + sumFrom (λ p. entrySpecimen p (now q)) 12 n from ≤ length (now q)) ⌝ }
-    ensures { λ r. ⌜ r ≡ every (holds (now (d .entry))) (testsFrom n from bodies (now (q .entry))) ⌝ }
+// Every test holds: each piece against its specimen, the specimens standing one after the other.
+pub fn all_hold(d: &[u8], q: &[u8], t: Parted) -> bool
+    requires { ⌜ PartedIn (now q) t ⌝ }
+    ensures { λ r. ⌜ r ≡ every (holds (now (d .entry))) (testsIn t (now (q .entry))) ⌝ }
 {
-    let mut left = n;
-    let mut cursor = Cursor { at: from };
-    let mut body = bodies;
+    let table = t.tests;
+    let mut left = table.count;
+    let mut cursor = table.first;
+    let mut specimens = t.specimens;
     while 0 < left {
-        let entry = cursor.entry(q, d.len());
-        let tail = entry.next.test_entry(q);
-        let end = body + tail.specimen;
-        let piece = crate::pieces::piece(d, entry.position, entry.count);
-        let order = octets::strings::compare(piece, &q[body..end]);
-        if !decide(tail.opcode, order) {
+        let test = cursor.test(q);
+        let entry = test.entry;
+        let place = resolve(entry.offset, d.len());
+        let part = piece(d, place.position, entry.count);
+        let specimen = specimens.body(q, test.specimen);
+        let order = octets::strings::compare(part, specimen.bytes(q));
+        if !decide(test.opcode, order) {
             return false;
         }
-        cursor = tail.next;
-        body = end;
+        cursor = test.next;
+        specimens = specimen.next;
         left -= 1;
     }
     true

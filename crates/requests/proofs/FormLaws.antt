@@ -1,88 +1,148 @@
--- What the tests of a request's form say, and what a form says of the request. Assumes nothing.
-use mathlib.Core.Path.{_≡_, refl, sym, _∙_, subst}
-use mathlib.Core.Bool.{Bool, true, false, not, _&&_}
+-- What the tests of a request's form say, and the form that they leave. Assumes nothing.
+use mathlib.Core.Path.{_≡_, refl, sym, ap, _∙_}
+use mathlib.Core.Bool.{Bool, true, false, cond, not, _&&_}
 use mathlib.Core.List.{List, [], _∷_}
-use mathlib.Core.Option.{none, some}
+use mathlib.Core.Option.{Option, none, some}
 use Prim.Native.Nat.{ℕ, zero, suc, _+_, _*_, _-_, _≤_, _<_}
 use native.Mathlib.Omega.{arith}
 use native.Mathlib.Nat.{not-suc-le-zero, mul-suc}
-use lib.ListN.{length, take, drop, getD}
+use lib.ListN.{length, take, drop, getD, length-drop}
+use lib.Seq.{take-all}
 use lib.Dec.{eqb, leb}
-use borrow.Author.Tests.{eqb-true, eqb-false, leb-true, eq-eqb, ne-eqb, le-leb, lt-leb, not-true}
-use Rattle.octets.specs.Numbers.{numberAt}
-use Rattle.octets.specs.Strings.{Octets}
-use Rattle.format.specs.Container.{ownerOf, held}
-use Rattle.format.proofs.WellFormed.{both, by-refuting}
-use Rattle.rules.specs.Requests.{add, renew, cancel, read, requestLimit, entryOpcode, entrySpecimen, entryCount, testEntryOk, allFrom, sumFrom, testCount, writeCount, cutFlag, newLength, testsAt, writesAt, specimensAt, newDataAt, testWriteEnd, cutOk, testWriteOk, testWriteOf, addOk, renewOk, cancelOk, readCount, readsAt, readsFrom, readOk, given, kindOf, byKind, requestOf}
-use Rattle.requests.specs.Forms.{tableOf, pick, testWriteForm, readForm, leaseForm, formOf}
-use Rattle.requests.specs.declared.forms.Table.{Table}
-use Rattle.requests.specs.declared.forms.Form.{Form}
-use Rattle.requests.specs.declared.forms.Form.the-variants.{Broken, TestWrite, Add, Renew, Cancel, Read}
+use borrow.Author.Tests.{eqb-true, leb-true, eq-eqb, ne-eqb, le-leb, lt-leb}
+use Rattle.requests.specs.declared.cursors.Cursor.{Cursor}
+use Rattle.requests.specs.declared.cursors.Body.{Body}
 use Rattle.requests.specs.declared.cursors.Header.{Header}
-use Rattle.requests.proofs.CursorLaws.{HeaderIs, specimen-below, count-below}
+use Rattle.requests.specs.declared.cursors.ReadHeader.{ReadHeader}
+use Rattle.requests.specs.declared.forms.Form.{Form}
+use Rattle.requests.specs.declared.forms.TestsPassed.{TestsPassed}
+use Rattle.requests.specs.declared.forms.WritesPassed.{WritesPassed}
+use Rattle.requests.specs.declared.forms.Form.the-variants.{Broken, Add, Renew, Cancel}
+use Rattle.requests.specs.declared.forms.Form.the-variants.{Read as ReadForm}
+use Rattle.octets.specs.Strings.{Octets}
+use Rattle.rules.specs.Requests.{allFrom, byKind, cutOf, cutOk, entryCount, entrySize, requestLimit, specimensAt}
+use Rattle.rules.specs.Requests.{sumFrom, testCount, testEntryOk, testSize, testWriteEnd, testWriteOf, testWriteOk}
+use Rattle.rules.specs.Requests.{writesAt, Request, entryLimit, entrySpecimen, newDataAt, secretAt, testsAt}
+use Rattle.rules.specs.Requests.{writeCount, cutFlag, entryOpcode, newLength, paddingAt, addOk, cancelOk, readCount}
+use Rattle.rules.specs.Requests.{readOk, readsAt, renewOk, requestOf, kindOf}
+use Rattle.requests.specs.Cursors.{bodyAt, headerAt, readHeaderAt}
+use Rattle.octets.specs.Lists.{isSome}
+use Rattle.requests.specs.Forms.{partedAs, testsPassed, writesPassed, Inside, Takes, asked, cutIn, entryOk}
+use Rattle.octets.proofs.ListLaws.{both, and-assoc, and-true, by-refuting}
+use Rattle.requests.proofs.CursorLaws.{count-below, specimen-below}
+use Rattle.format.specs.Layout.{secretSize, ownerOf, recordSize}
+use Rattle.format.specs.Container.{held}
+use Rattle.octets.specs.Numbers.{numberAt}
 
--- ---- a turn of a loop over entries, and its end; e is the next place
-module _ (t : ℕ → Bool) (stride : ℕ) where
-  pub all-more : (left p e : ℕ) → 0 < left → e ≡ p + stride → t p ≡ true → allFrom t stride left p ≡ allFrom t stride (left - 1) e
+-- ---- the first entry of a table and the rest
+module _ (stride left p : ℕ) (h : 0 < left) where
+  one : left ≡ suc (left - 1)
+  one = omega arith
+
+  pub all-next : (t : ℕ → Bool) → allFrom t stride left p ≡ (t p && allFrom t stride (left - 1) (p + stride))
   unfolding allFrom
-  all-more zero p e h k u = absurd (not-suc-le-zero h)
-  all-more (suc n) p e h k u =
-      let m : suc n - 1 ≡ n = omega arith in
-      rw (u, m, k)
+  all-next t = ap (λ (n : ℕ). allFrom t stride n p) one
 
-  pub all-stop : (left p : ℕ) → 0 < left → t p ≡ false → allFrom t stride left p ≡ false
+  pub sum-next : (f : ℕ → ℕ) → sumFrom f stride left p ≡ f p + sumFrom f stride (left - 1) (p + stride)
+  unfolding sumFrom
+  sum-next f = ap (λ (n : ℕ). sumFrom f stride n p) one
+
+  pub times-next : stride * left ≡ stride * (left - 1) + stride
+  times-next = ap (λ (n : ℕ). stride * n) one ∙ mul-suc stride (left - 1)
+
+module _ (stride left p : ℕ) (h : left ≤ 0) where
+  none-left : left ≡ 0
+  none-left = omega arith
+
+  pub all-end : (t : ℕ → Bool) → allFrom t stride left p ≡ true
   unfolding allFrom
-  all-stop zero p h u = absurd (not-suc-le-zero h)
-  all-stop (suc n) p h u = rw u
+  all-end t = ap (λ (n : ℕ). allFrom t stride n p) none-left
 
-  pub all-none : (left p : ℕ) → left ≤ 0 → allFrom t stride left p ≡ true
-  unfolding allFrom
-  all-none zero p h = refl
-  all-none (suc n) p h = absurd (not-suc-le-zero h)
-
-module _ (f : ℕ → ℕ) (stride : ℕ) where
-  pub sum-more : (left p e : ℕ) → 0 < left → e ≡ p + stride → sumFrom f stride left p ≡ f p + sumFrom f stride (left - 1) e
+  pub sum-end : (f : ℕ → ℕ) → sumFrom f stride left p ≡ 0
   unfolding sumFrom
-  sum-more zero p e h k = absurd (not-suc-le-zero h)
-  sum-more (suc n) p e h k =
-      let m : suc n - 1 ≡ n = omega arith in
-      rw (m, k)
+  sum-end f = ap (λ (n : ℕ). sumFrom f stride n p) none-left
 
-  pub sum-none : (left p : ℕ) → left ≤ 0 → sumFrom f stride left p ≡ 0
-  unfolding sumFrom
-  sum-none zero p h = refl
-  sum-none (suc n) p h = absurd (not-suc-le-zero h)
+pub sum-most : (f : ℕ → ℕ) (stride b : ℕ) → ((p : ℕ) → f p < b) → (n p : ℕ) → sumFrom f stride n p ≤ b * n
+unfolding sumFrom
+sum-most f stride b h zero p = omega arith
+sum-most f stride b h (suc n) p = omega (arith, h p, sum-most f stride b h n (p + stride), mul-suc b n)
 
-  pub sum-most : (b : ℕ) → ((p : ℕ) → f p < b) → (n p : ℕ) → sumFrom f stride n p ≤ b * n
-  unfolding sumFrom
-  sum-most b h zero p = omega arith
-  sum-most b h (suc n) p = omega (arith, h p, sum-most b h n (p + stride), mul-suc b n)
+pub specimens-most : (q : List ℕ) → Octets q → (n p : ℕ) → sumFrom (λ i. entrySpecimen i q) testSize n p ≤ 65536 * n
+specimens-most q h n p = sum-most (λ i. entrySpecimen i q) testSize 65536 (λ i. specimen-below i q h) n p
 
-pub specimens-most : (q : List ℕ) → Octets q → (n p : ℕ) → sumFrom (λ p. entrySpecimen p q) 12 n p ≤ 65536 * n
-specimens-most q h n p = sum-most (λ p. entrySpecimen p q) 12 65536 (λ i. specimen-below i q h) n p
+pub bodies-most : (q : List ℕ) → Octets q → (n p : ℕ) → sumFrom (λ i. entryCount i q) entrySize n p ≤ 4294967296 * n
+bodies-most q h n p = sum-most (λ i. entryCount i q) entrySize 4294967296 (λ i. count-below i q h) n p
 
-pub bodies-most : (q : List ℕ) → Octets q → (n p : ℕ) → sumFrom (λ p. entryCount p q) 8 n p ≤ 4294967296 * n
-bodies-most q h n p = sum-most (λ p. entryCount p q) 8 4294967296 (λ i. count-below i q h) n p
-
--- ---- a test's entry
-pub record EntryFacts (q : List ℕ) (p : ℕ) : Type 0 where
-  pub least : 1 ≤ entryOpcode p q
-  pub most : entryOpcode p q ≤ 6
-  pub zero : getD q (p + 9) 0 ≡ 0
-
-pub entry-facts : (q : List ℕ) (p : ℕ) → testEntryOk q p ≡ true → EntryFacts q p
+-- ---- passing over a table
+pub test-entry-ok : (q : List ℕ) (p : ℕ) → entryOk (entryOpcode p q) (getD q (p + paddingAt) 0) ≡ testEntryOk q p
 unfolding testEntryOk
-entry-facts q p e =
-    let a = both _ _ e in
-    let b = both _ _ (a .1) in
-    record { least = leb-true _ _ (a .0); most = leb-true _ _ (b .0); zero = eqb-true _ _ (b .1) }
+test-entry-ok q p = refl
 
-pub entry-true : (q : List ℕ) (p : ℕ) → EntryFacts q p → testEntryOk q p ≡ true
-unfolding testEntryOk
-entry-true q p h = rw (le-leb _ _ (h .least), le-leb _ _ (h .most), eq-eqb _ _ (h .zero))
+-- what is left of a table of n tests from p on, with what has been found so far
+pub record Testing (q : List ℕ) (p n : ℕ) (good : Bool) (sum at left : ℕ) : Type 0 where
+  pub few : left ≤ n
+  pub reaches : at + testSize * left ≡ p + testSize * n
+  pub tested : (good && allFrom (testEntryOk q) testSize left at) ≡ allFrom (testEntryOk q) testSize n p
+  pub summed : sum + sumFrom (λ i. entrySpecimen i q) testSize left at
+      ≡ sumFrom (λ i. entrySpecimen i q) testSize n p
 
-pub entry-false : (q : List ℕ) (p : ℕ) → (EntryFacts q p → ⊥) → testEntryOk q p ≡ false
-entry-false q p k = by-refuting (testEntryOk q p) (λ e. k (entry-facts q p e))
+pub testing-start : (q : List ℕ) (p n : ℕ) → Testing q p n true 0 p n
+testing-start q p n = record { few = omega arith; reaches = refl; tested = refl; summed = omega arith }
+
+pub testing-next : {q : List ℕ} {p n : ℕ} {good : Bool} {sum at left : ℕ} → Testing q p n good sum at left → 0 < left
+    → (g : Bool) (s : ℕ) → g ≡ (good && testEntryOk q at) → s ≡ entrySpecimen at q
+    → Testing q p n g (sum + s) (at + testSize) (left - 1)
+testing-next {q} {p} {n} {good} {sum} {at} {left} t h g s e k =
+    let m : ℕ = left - 1 in
+    record {
+      few = omega (arith, t .few);
+      reaches = omega (arith, t .reaches, times-next testSize left at h);
+      tested =
+          rw e (and-assoc good (testEntryOk q at) (allFrom (testEntryOk q) testSize m (at + testSize)))
+          ∙ ap (λ (b : Bool). good && b) (sym (all-next testSize left at h (testEntryOk q))) ∙ t .tested;
+      summed = omega (arith, t .summed, sum-next testSize left at h (λ i. entrySpecimen i q));
+    }
+
+pub testing-bound : {q : List ℕ} {p n : ℕ} {good : Bool} {sum at left : ℕ} → Testing q p n good sum at left → 0 < left
+    → sum + entrySpecimen at q ≤ sumFrom (λ i. entrySpecimen i q) testSize n p
+testing-bound {q} {p} {n} {good} {sum} {at} {left} t h =
+    omega (arith, t .summed, sum-next testSize left at h (λ i. entrySpecimen i q))
+
+pub testing-end : {q : List ℕ} {p n : ℕ} {good : Bool} {sum at left : ℕ} → Testing q p n good sum at left → left ≤ 0
+    → _≡_ {A = TestsPassed} (record { good = good; length = sum; next = record { at = at } }) (testsPassed p n q)
+testing-end {q} {p} {n} {good} {sum} {at} {left} t h =
+    let z : left ≡ 0 = omega arith in
+    let a : at ≡ p + testSize * n = omega (arith, t .reaches) in
+    let s : sum ≡ sumFrom (λ i. entrySpecimen i q) testSize n p =
+    omega (arith, t .summed, sum-end testSize left at h (λ i. entrySpecimen i q)) in
+    let g : good ≡ allFrom (testEntryOk q) testSize n p =
+    sym (and-true good) ∙ ap (λ (b : Bool). good && b) (sym (all-end testSize left at h (testEntryOk q))) ∙ t .tested in
+    rw (a, s, g)
+
+-- the same of writes
+pub record Adding (q : List ℕ) (p n sum at left : ℕ) : Type 0 where
+  pub few : left ≤ n
+  pub reaches : at + entrySize * left ≡ p + entrySize * n
+  pub summed : sum + sumFrom (λ i. entryCount i q) entrySize left at ≡ sumFrom (λ i. entryCount i q) entrySize n p
+
+pub adding-start : (q : List ℕ) (p n : ℕ) → Adding q p n 0 p n
+adding-start q p n = record { few = omega arith; reaches = refl; summed = omega arith }
+
+pub adding-next : {q : List ℕ} {p n sum at left : ℕ} → Adding q p n sum at left → 0 < left
+    → (s : ℕ) → s ≡ entryCount at q → Adding q p n (sum + s) (at + entrySize) (left - 1)
+adding-next {q} {p} {n} {sum} {at} {left} t h s k = record {
+  few = omega (arith, t .few);
+  reaches = omega (arith, t .reaches, times-next entrySize left at h);
+  summed = omega (arith, t .summed, sum-next entrySize left at h (λ i. entryCount i q));
+}
+
+pub adding-end : {q : List ℕ} {p n sum at left : ℕ} → Adding q p n sum at left → left ≤ 0
+    → _≡_ {A = WritesPassed} (record { length = sum; next = record { at = at } }) (writesPassed p n q)
+adding-end {q} {p} {n} {sum} {at} {left} t h =
+    let a : at ≡ p + entrySize * n = omega (arith, t .reaches) in
+    let s : sum ≡ sumFrom (λ i. entryCount i q) entrySize n p =
+    omega (arith, t .summed, sum-end entrySize left at h (λ i. entryCount i q)) in
+    rw (a, s)
 
 -- ---- the cut
 pub cut-none : (flag new : ℕ) → flag ≡ 0 → cutOk flag new ≡ eqb new 0
@@ -95,13 +155,26 @@ cut-some zero new h = absurd (h refl)
 cut-some (suc zero) new h = refl
 cut-some (suc (suc n)) new h = rw (lt-leb (suc (suc n)) 1 (omega arith), ne-eqb (suc (suc n)) 1 (λ e. omega arith))
 
+pub cut-is : (flag new : ℕ) → cutIn (record { set = not (eqb flag 0); length = new }) ≡ cutOf flag new
+unfolding cutOf
+cut-is flag new = go (eqb flag 0)
+  where
+    go : (b : Bool) → cond (not b) (some new) none ≡ cond b none (some new)
+    go true = refl
+    go false = refl
+
+-- ---- forms
+pub takes-broken : (q : List ℕ) (w : Option Request) → w ≡ none → Takes q w Broken
+unfolding isSome
+takes-broken q w e = record { number = rw e; asks = sym e; inside = tt }
+
 -- ---- a test-and-write
 pub record TableFacts (q : List ℕ) : Type 0 where
-  pub tests : testCount q ≤ 16
-  pub writes : writeCount q ≤ 16
+  pub tests : testCount q ≤ entryLimit
+  pub writes : writeCount q ≤ entryLimit
   pub cut : cutOk (cutFlag q) (newLength q) ≡ true
   pub ends : testWriteEnd q ≡ length q
-  pub entries : allFrom (testEntryOk q) 12 (testCount q) testsAt ≡ true
+  pub entries : allFrom (testEntryOk q) testSize (testCount q) testsAt ≡ true
 
 pub table-facts : (q : List ℕ) → testWriteOk q ≡ true → TableFacts q
 unfolding testWriteOk
@@ -110,50 +183,116 @@ table-facts q e =
     let b = both _ _ (a .1) in
     let c = both _ _ (b .1) in
     let d = both _ _ (c .1) in
-    record { tests = leb-true _ _ (a .0); writes = leb-true _ _ (b .0); cut = c .0; ends = eqb-true _ _ (d .0); entries = d .1 }
+    record {
+      tests = leb-true _ _ (a .0);
+      writes = leb-true _ _ (b .0);
+      cut = c .0;
+      ends = eqb-true _ _ (d .0);
+      entries = d .1;
+    }
 
-pub table-true : (q : List ℕ) → TableFacts q → testWriteOk q ≡ true
+table-true : (q : List ℕ) → TableFacts q → testWriteOk q ≡ true
 unfolding testWriteOk
 table-true q h = rw (le-leb _ _ (h .tests), le-leb _ _ (h .writes), h .cut, eq-eqb _ _ (h .ends), h .entries)
 
-pub table-false : (q : List ℕ) → (TableFacts q → ⊥) → testWriteOk q ≡ false
-table-false q k = by-refuting (testWriteOk q) (λ e. k (table-facts q e))
+pub no-table : (q : List ℕ) → (TableFacts q → ⊥) → Takes q (byKind 1 q) Broken
+unfolding byKind
+no-table q k = takes-broken q _ (rw (by-refuting (testWriteOk q) (λ e. k (table-facts q e))))
 
 -- Where its parts begin and end.
 pub record TablePlaces (q : List ℕ) : Type 0 where
-  pub writes : writesAt q ≡ 40 + 12 * testCount q
-  pub specimens : specimensAt q ≡ writesAt q + 8 * writeCount q
-  pub bodies : newDataAt q ≡ specimensAt q + sumFrom (λ p. entrySpecimen p q) 12 (testCount q) testsAt
-  pub ends : testWriteEnd q ≡ newDataAt q + sumFrom (λ p. entryCount p q) 8 (writeCount q) (writesAt q)
+  pub writes : writesAt q ≡ testsAt + testSize * testCount q
+  pub specimens : specimensAt q ≡ writesAt q + entrySize * writeCount q
+  pub bodies : newDataAt q ≡ specimensAt q + sumFrom (λ p. entrySpecimen p q) testSize (testCount q) testsAt
+  pub ends : testWriteEnd q ≡ newDataAt q + sumFrom (λ p. entryCount p q) entrySize (writeCount q) (writesAt q)
 
 pub table-places : (q : List ℕ) → TablePlaces q
 unfolding writesAt specimensAt newDataAt testWriteEnd
 table-places q = record { writes = refl; specimens = refl; bodies = refl; ends = refl }
 
--- The same by the header that the code has read, s and b being the sums over its tables.
-module _ (q : List ℕ) (x : Header) (i : HeaderIs q x) (s : ℕ) (e : s ≡ sumFrom (λ p. entrySpecimen p q) 12 (x .tests) testsAt) where
-  pub table-ends : (b : ℕ) → b ≡ sumFrom (λ p. entryCount p q) 8 (x .writes) (40 + 12 * x .tests) → testWriteEnd q ≡ 40 + 12 * x .tests + 8 * x .writes + s + b
-  unfolding writesAt specimensAt newDataAt testWriteEnd
-  table-ends b f = rw (f, e, i .tests, i .writes)
+-- The header, read after the kind.
+pub record HeaderIs (q : List ℕ) (x : Header) : Type 0 where
+  pub tests : x .tests ≡ testCount q
+  pub writes : x .writes ≡ writeCount q
+  pub flag : x .flag ≡ cutFlag q
+  pub new : x .new ≡ newLength q
+  pub next : x .next .at ≡ secretAt
 
-  pub table-made : _≡_ {A = Table} (record { tests = x .tests; writes = x .writes; cut = not (eqb (x .flag) 0); new = x .new; specimens = 40 + 12 * x .tests + 8 * x .writes; bodies = 40 + 12 * x .tests + 8 * x .writes + s }) (tableOf q)
+pub header-is : (q : List ℕ) (p : ℕ) (x : Header) → p ≡ 1 → x ≡ headerAt p q → HeaderIs q x
+unfolding testCount writeCount cutFlag newLength
+header-is q p x k e = rw e (rw k (record { tests = refl; writes = refl; flag = refl; new = refl; next = refl }))
+
+-- The parts where they stand by the rules.
+abbrev placedAt : List ℕ → Form
+placedAt q =
+    partedAs (record { tests = testCount q; writes = writeCount q; flag = cutFlag q; new = newLength q; next = record { at = secretAt } })
+    (bodyAt secretAt secretSize) (record { at = writesAt q }) (record { at = specimensAt q }) (record { at = newDataAt q })
+
+asked-placed : (q : List ℕ) → asked q (placedAt q) ≡ some (testWriteOf q)
+unfolding testWriteOf
+asked-placed q = rw (cut-is (cutFlag q) (newLength q))
+
+inside-placed : (q : List ℕ) → TableFacts q → length q ≤ requestLimit → Inside q (placedAt q)
+inside-placed q f s =
+    let m = table-places q in
+    let e = f .ends in
+    record {
+      short = s;
+      enabler = record { size = refl; fits = omega arith };
+      tests = record { wide = omega arith; narrow = omega arith; few = f .tests; inside = omega arith };
+      tests-stride = refl;
+      writes = record { wide = omega arith; narrow = omega arith; few = f .writes; inside = omega arith };
+      writes-stride = refl;
+      specimens = omega arith;
+      bodies = omega arith;
+    }
+
+-- What the code has found: header x, enabler e, tests t and writes w passed over, the cursor b behind the specimens.
+pub record Found (q : List ℕ) (x : Header) (e : Body) (t : TestsPassed) (w : WritesPassed) : Type 0 where
+  pub header : HeaderIs q x
+  pub enabler : e ≡ bodyAt (x .next .at) secretSize
+  pub tests : t ≡ testsPassed (e .next .at) (x .tests) q
+  pub writes : w ≡ writesPassed (t .next .at) (x .writes) q
+
+module _ {q : List ℕ} {x : Header} {e : Body} {t : TestsPassed} {w : WritesPassed} (F : Found q x e t w) where
+  enabler-at : e ≡ bodyAt secretAt secretSize
+  enabler-at = F .enabler ∙ rw (F .header .next)
+
+  pub tests-at : t ≡ testsPassed testsAt (testCount q) q
+  tests-at = F .tests ∙ rw (enabler-at, F .header .tests)
+
+  pub writes-at : w ≡ writesPassed (writesAt q) (writeCount q) q
+  unfolding writesAt
+  writes-at = F .writes ∙ rw (tests-at, F .header .writes)
+
+  pub specimens-at : w .next .at ≡ specimensAt q
+  unfolding specimensAt
+  specimens-at = ap (λ (y : WritesPassed). y .next .at) writes-at
+
+  pub ends-at : testWriteEnd q ≡ w .next .at + t .length + w .length
+  unfolding testWriteEnd newDataAt
+  ends-at = sym (rw (specimens-at, tests-at, writes-at))
+
+  pub entries-at : t .good ≡ allFrom (testEntryOk q) testSize (testCount q) testsAt
+  entries-at = ap (λ (y : TestsPassed). y .good) tests-at
+
+  placed-is : (b : Body) → b ≡ bodyAt (w .next .at) (t .length) → partedAs x e (t .next) (w .next) (b .next) ≡ placedAt q
   unfolding writesAt specimensAt newDataAt
-  table-made = rw (e, i .tests, i .writes, i .flag, i .new)
+  placed-is b k = rw (k, enabler-at, tests-at, writes-at, F .header .tests, F .header .writes, F .header .flag, F .header .new)
 
-pub form-table : (q : List ℕ) (t : Table) → TableFacts q → t ≡ tableOf q → TestWrite t ≡ testWriteForm q
-unfolding testWriteForm
-form-table q t h e = rw (table-true q h, e)
-
-pub form-no-table : (q : List ℕ) → (TableFacts q → ⊥) → Broken ≡ testWriteForm q
-unfolding testWriteForm
-form-no-table q k = rw (table-false q k)
+  pub taken : (b : Body) (r : Form) → b ≡ bodyAt (w .next .at) (t .length) → r ≡ partedAs x e (t .next) (w .next) (b .next)
+      → TableFacts q → length q ≤ requestLimit → Takes q (byKind 1 q) r
+  unfolding byKind isSome
+  taken b r k e f s =
+      rw (e ∙ placed-is b k)
+      (record { number = rw (table-true q f); asks = rw (table-true q f) (asked-placed q); inside = inside-placed q f s })
 
 -- ---- a read
 pub record ReadFacts (q : List ℕ) : Type 0 where
-  pub reads : readCount q ≤ 16
-  pub third : getD q 2 0 ≡ 0
-  pub fourth : getD q 3 0 ≡ 0
-  pub ends : 4 + 8 * readCount q ≡ length q
+  pub reads : readCount q ≤ entryLimit
+  pub first : getD q 2 0 ≡ 0
+  pub second : getD q 3 0 ≡ 0
+  pub ends : readsAt + entrySize * readCount q ≡ length q
 
 pub read-facts : (q : List ℕ) → readOk q ≡ true → ReadFacts q
 unfolding readOk
@@ -161,167 +300,116 @@ read-facts q e =
     let a = both _ _ e in
     let b = both _ _ (a .1) in
     let c = both _ _ (b .1) in
-    record { reads = leb-true _ _ (a .0); third = eqb-true _ _ (b .0); fourth = eqb-true _ _ (c .0); ends = eqb-true _ _ (c .1) }
+    record {
+      reads = leb-true _ _ (a .0);
+      first = eqb-true _ _ (b .0);
+      second = eqb-true _ _ (c .0);
+      ends = eqb-true _ _ (c .1);
+    }
 
-pub read-true : (q : List ℕ) → ReadFacts q → readOk q ≡ true
+read-true : (q : List ℕ) → ReadFacts q → readOk q ≡ true
 unfolding readOk
-read-true q h = rw (le-leb _ _ (h .reads), eq-eqb _ _ (h .third), eq-eqb _ _ (h .fourth), eq-eqb _ _ (h .ends))
+read-true q h = rw (le-leb _ _ (h .reads), h .first, h .second, eq-eqb _ _ (h .ends))
 
-pub read-false : (q : List ℕ) → (ReadFacts q → ⊥) → readOk q ≡ false
-read-false q k = by-refuting (readOk q) (λ e. k (read-facts q e))
+pub no-read : (q : List ℕ) → (ReadFacts q → ⊥) → Takes q (byKind 5 q) Broken
+unfolding byKind
+no-read q k = takes-broken q _ (rw (by-refuting (readOk q) (λ e. k (read-facts q e))))
 
-pub read-count : (q : List ℕ) → readCount q ≡ getD q 1 0
+pub record ReadHeaderIs (q : List ℕ) (x : ReadHeader) : Type 0 where
+  pub reads : x .reads ≡ readCount q
+  pub first : x .first ≡ getD q 2 0
+  pub second : x .second ≡ getD q 3 0
+  pub next : x .next .at ≡ readsAt
+
+pub read-header-is : (q : List ℕ) (p : ℕ) (x : ReadHeader) → p ≡ 1 → x ≡ readHeaderAt p q → ReadHeaderIs q x
 unfolding readCount
-read-count q = refl
+read-header-is q p x k e = rw e (rw k (record { reads = refl; first = refl; second = refl; next = refl }))
 
-pub form-reads : (q : List ℕ) → ReadFacts q → Read (getD q 1 0) ≡ readForm q
-unfolding readForm readCount
-form-reads q h = rw (read-true q h)
+pub read-taken : (q : List ℕ) (x : ReadHeader) (a n : ℕ) → ReadHeaderIs q x → ReadFacts q → a ≡ x .next .at → n ≡ x .reads
+    → Takes q (byKind 5 q) (ReadForm (record { first = record { at = a }; count = n; stride = entrySize }))
+unfolding byKind isSome
+read-taken q x a n h f ea en =
+    let i : a ≡ readsAt = ea ∙ h .next in
+    let k : n ≡ readCount q = en ∙ h .reads in
+    rw (i, k) (record {
+      number = rw (read-true q f);
+      asks = rw (read-true q f);
+      inside = (
+        record { wide = omega arith; narrow = omega arith; few = f .reads; inside = omega (arith, f .ends) },
+        refl,
+      );
+    })
 
-pub form-no-reads : (q : List ℕ) → (ReadFacts q → ⊥) → Broken ≡ readForm q
-unfolding readForm
-form-no-reads q k = rw (read-false q k)
+-- ---- lease requests, after their kind
+rest-is : (q : List ℕ) (n : ℕ) → length q ≡ 1 + n → take n (drop 1 q) ≡ drop 1 q
+rest-is q n e = take-all n (drop 1 q) (rw length-drop (omega arith))
 
--- ---- the leases
-add-is : (q : List ℕ) → addOk q ≡ eqb (length q) 93 && not (eqb (numberAt 4 1 q) 0)
-unfolding addOk held ownerOf numberAt
-add-is q = refl
+owner-is : (q : List ℕ) → held (drop 1 q) ≡ not (eqb (numberAt 4 1 q) 0)
+unfolding held ownerOf numberAt
+owner-is q = refl
 
-pub record AddFacts (q : List ℕ) : Type 0 where
-  pub size : length q ≡ 93
-  pub owned : numberAt 4 1 q ≡ 0 → ⊥
+pub add-length : (q : List ℕ) → (length q ≡ 1 + recordSize → ⊥) → Takes q (byKind 2 q) Broken
+unfolding byKind addOk
+add-length q h = takes-broken q _ (rw (ne-eqb _ _ h))
 
-pub add-facts : (q : List ℕ) → addOk q ≡ true → AddFacts q
-add-facts q e = let a = both _ _ (sym (add-is q) ∙ e) in record { size = eqb-true _ _ (a .0); owned = eqb-false _ _ (not-true _ (a .1)) }
+pub add-unowned : (q : List ℕ) → length q ≡ 1 + recordSize → numberAt 4 1 q ≡ 0 → Takes q (byKind 2 q) Broken
+unfolding byKind addOk
+add-unowned q l h = takes-broken q _ (rw (eq-eqb _ _ l, owner-is q, h))
 
-pub add-true : (q : List ℕ) → AddFacts q → addOk q ≡ true
-add-true q h = add-is q ∙ rw (eq-eqb _ _ (h .size), ne-eqb _ _ (h .owned))
+pub add-taken : (q : List ℕ) (b : Body) → length q ≡ 1 + recordSize → (numberAt 4 1 q ≡ 0 → ⊥) → b ≡ bodyAt 1 recordSize
+    → Takes q (byKind 2 q) (Add b)
+unfolding byKind addOk isSome
+add-taken q b l h e =
+    let o : held (drop 1 q) ≡ true = owner-is q ∙ rw (ne-eqb _ _ h) in
+    let r = rest-is q recordSize l in
+    rw e (record {
+      number = rw (eq-eqb _ _ l, o);
+      asks = rw (eq-eqb _ _ l, o, r);
+      inside = (record { size = refl; fits = omega arith }, rw r o);
+    })
 
-pub add-false : (q : List ℕ) → (AddFacts q → ⊥) → addOk q ≡ false
-add-false q k = by-refuting (addOk q) (λ e. k (add-facts q e))
+pub renew-length : (q : List ℕ) → (length q ≡ 1 + secretSize + 4 → ⊥) → Takes q (byKind 3 q) Broken
+unfolding byKind renewOk
+renew-length q h = takes-broken q _ (rw (ne-eqb _ _ h))
 
-pub renew-is : (q : List ℕ) → renewOk q ≡ eqb (length q) 37
-unfolding renewOk
-renew-is q = refl
+pub renew-taken : (q : List ℕ) (b : Body) (x : ℕ) → length q ≡ 1 + secretSize + 4 → b ≡ bodyAt 1 secretSize
+    → x ≡ numberAt 4 (1 + secretSize) q → Takes q (byKind 3 q) (Renew b x)
+unfolding byKind renewOk isSome
+renew-taken q b x l e f =
+    rw (e, f)
+    (record { number = rw (eq-eqb _ _ l); asks = rw (eq-eqb _ _ l); inside = record { size = refl; fits = omega arith } })
 
-pub cancel-is : (q : List ℕ) → cancelOk q ≡ eqb (length q) 33
-unfolding cancelOk
-cancel-is q = refl
+pub cancel-length : (q : List ℕ) → (length q ≡ 1 + secretSize → ⊥) → Takes q (byKind 4 q) Broken
+unfolding byKind cancelOk
+cancel-length q h = takes-broken q _ (rw (ne-eqb _ _ h))
 
-module _ (k : ℕ) (q : List ℕ) where
-  pub lease-add : k ≡ 2 → (b : Bool) → addOk q ≡ b → pick b Add Broken ≡ leaseForm k q
-  unfolding leaseForm
-  lease-add e b o = rw (e, o)
+pub cancel-taken : (q : List ℕ) (b : Body) → length q ≡ 1 + secretSize → b ≡ bodyAt 1 secretSize
+    → Takes q (byKind 4 q) (Cancel b)
+unfolding byKind cancelOk isSome
+cancel-taken q b l e =
+    rw e (record {
+      number = rw (eq-eqb _ _ l);
+      asks = rw (eq-eqb _ _ l, rest-is q secretSize l);
+      inside = record { size = refl; fits = omega arith };
+    })
 
-  pub lease-renew : k ≡ 3 → (b : Bool) → renewOk q ≡ b → pick b Renew Broken ≡ leaseForm k q
-  unfolding leaseForm
-  lease-renew e b o = rw (e, o)
+-- ---- by the first byte
+pub by-kind : (q : List ℕ) (k : ℕ) (r : Form) → length q ≤ requestLimit → k ≡ getD q 0 0 → Takes q (byKind k q) r
+    → Takes q (requestOf q) r
+unfolding requestOf kindOf
+by-kind q k r l e t = rw (le-leb _ _ l, ← e) t
 
-  pub lease-cancel : (k ≡ 2 → ⊥) → (k ≡ 3 → ⊥) → (b : Bool) → cancelOk q ≡ b → pick b Cancel Broken ≡ leaseForm k q
-  unfolding leaseForm
-  lease-cancel h i b o = rw (ne-eqb _ _ h, ne-eqb _ _ i, o)
+pub too-long : (q : List ℕ) → requestLimit < length q → Takes q (requestOf q) Broken
+unfolding requestOf
+too-long q l = takes-broken q _ (rw (lt-leb _ _ l))
 
--- ---- by the kind
-module _ (q : List ℕ) where
-  pub form-long : requestLimit < length q → Broken ≡ formOf q
-  unfolding formOf
-  form-long h = rw (lt-leb _ _ h)
+pub unknown-kind : (q : List ℕ) (k : ℕ) → (k ≡ 1 → ⊥) → (k ≡ 2 → ⊥) → (k ≡ 3 → ⊥) → (k ≡ 4 → ⊥) → (k ≡ 5 → ⊥)
+    → Takes q (byKind k q) Broken
+unfolding byKind
+unknown-kind q k a b c d e =
+    takes-broken q _ (rw (ne-eqb _ _ a, ne-eqb _ _ b, ne-eqb _ _ c, ne-eqb _ _ d, ne-eqb _ _ e))
 
-  module _ (l : length q ≤ requestLimit) where
-    pub form-one : getD q 0 0 ≡ 1 → formOf q ≡ testWriteForm q
-    unfolding formOf kindOf
-    form-one k = rw (le-leb _ _ l, k)
-
-    pub form-five : getD q 0 0 ≡ 5 → formOf q ≡ readForm q
-    unfolding formOf kindOf
-    form-five k = rw (le-leb _ _ l, k)
-
-    module _ (a : getD q 0 0 ≡ 1 → ⊥) (b : getD q 0 0 ≡ 5 → ⊥) where
-      pub form-low : getD q 0 0 < 2 → Broken ≡ formOf q
-      unfolding formOf kindOf
-      form-low h = rw (le-leb _ _ l, ne-eqb _ _ a, ne-eqb _ _ b, lt-leb _ _ h)
-
-      pub form-high : 4 < getD q 0 0 → Broken ≡ formOf q
-      unfolding formOf kindOf
-      form-high h = rw (le-leb _ _ l, ne-eqb _ _ a, ne-eqb _ _ b, le-leb 2 (getD q 0 0) (omega arith), lt-leb _ _ h)
-
-      pub form-lease : 2 ≤ getD q 0 0 → getD q 0 0 ≤ 4 → formOf q ≡ leaseForm (getD q 0 0) q
-      unfolding formOf kindOf
-      form-lease h i = rw (le-leb _ _ l, ne-eqb _ _ a, ne-eqb _ _ b, le-leb _ _ h, le-leb _ _ i)
-
-nothing : (q : List ℕ) → length q ≡ 0 → getD q 0 0 ≡ 0
-nothing [] e = refl
-nothing (x ∷ q) e = absurd (omega arith)
-
-pub form-empty : (q : List ℕ) → length q ≡ 0 → Broken ≡ formOf q
-form-empty q e = let k : getD q 0 0 ≡ 0 = nothing q e in form-low q (omega arith) (λ h. omega arith) (λ h. omega arith) (omega arith)
-
--- ---- what a form says of the request
-abbrev Means : List ℕ → Form → Type 0
-Means q Broken = requestOf q ≡ none
-Means q (TestWrite t) = (t ≡ tableOf q) × (testWriteOk q ≡ true) × (length q ≤ requestLimit) × (requestOf q ≡ some (testWriteOf q))
-Means q Add = (addOk q ≡ true) × (requestOf q ≡ some (add (drop 1 q)))
-Means q Renew = (renewOk q ≡ true) × (requestOf q ≡ some (renew (take 32 (drop 1 q)) (numberAt 4 33 q)))
-Means q Cancel = (cancelOk q ≡ true) × (requestOf q ≡ some (cancel (drop 1 q)))
-Means q (Read n) = (n ≡ readCount q) × (readOk q ≡ true) × (requestOf q ≡ some (read (readsFrom (readCount q) readsAt q)))
-
-means : (q : List ℕ) → Means q (formOf q)
-unfolding formOf testWriteForm readForm leaseForm requestOf byKind given
-means q = short (leb (length q) requestLimit) refl
-  where
-    one : leb (length q) requestLimit ≡ true → kindOf q ≡ 1 → (b : Bool) → testWriteOk q ≡ b → Means q (formOf q)
-    one l k true o = rw (l, k, o) (refl, o, leb-true _ _ l, rw (l, k, o))
-    one l k false o = rw (l, k, o) (rw (l, k, o))
-
-    two : leb (length q) requestLimit ≡ true → kindOf q ≡ 2 → (b : Bool) → addOk q ≡ b → Means q (formOf q)
-    two l k true o = rw (l, k, o) (o, rw (l, k, o))
-    two l k false o = rw (l, k, o) (rw (l, k, o))
-
-    three : leb (length q) requestLimit ≡ true → kindOf q ≡ 3 → (b : Bool) → renewOk q ≡ b → Means q (formOf q)
-    three l k true o = rw (l, k, o) (o, rw (l, k, o))
-    three l k false o = rw (l, k, o) (rw (l, k, o))
-
-    four : leb (length q) requestLimit ≡ true → kindOf q ≡ 4 → (b : Bool) → cancelOk q ≡ b → Means q (formOf q)
-    four l k true o = rw (l, k, o) (o, rw (l, k, o))
-    four l k false o = rw (l, k, o) (rw (l, k, o))
-
-    five : leb (length q) requestLimit ≡ true → kindOf q ≡ 5 → (b : Bool) → readOk q ≡ b → Means q (formOf q)
-    five l k true o = rw (l, k, o) (refl, o, rw (l, k, o))
-    five l k false o = rw (l, k, o) (rw (l, k, o))
-
-    other : leb (length q) requestLimit ≡ true → 5 < kindOf q → Means q (formOf q)
-    other l h =
-        let n : (i : ℕ) → i ≤ 5 → eqb (kindOf q) i ≡ false = λ i j. ne-eqb (kindOf q) i (λ e. omega arith) in
-        rw (l, n 1 (omega arith), n 5 (omega arith), le-leb 2 (kindOf q) (omega arith), lt-leb (kindOf q) 4 (omega arith)) (rw (l, n 1 (omega arith), n 2 (omega arith), n 3 (omega arith), n 4 (omega arith), n 5 (omega arith)))
-
-    by : leb (length q) requestLimit ≡ true → (n : ℕ) → kindOf q ≡ n → Means q (formOf q)
-    by l zero k = rw (l, k) (rw (l, k))
-    by l (suc zero) k = one l k (testWriteOk q) refl
-    by l (suc (suc zero)) k = two l k (addOk q) refl
-    by l (suc (suc (suc zero))) k = three l k (renewOk q) refl
-    by l (suc (suc (suc (suc zero)))) k = four l k (cancelOk q) refl
-    by l (suc (suc (suc (suc (suc zero))))) k = five l k (readOk q) refl
-    by l (suc (suc (suc (suc (suc (suc n)))))) k = other l (omega arith)
-
-    short : (b : Bool) → leb (length q) requestLimit ≡ b → Means q (formOf q)
-    short true l = by l (kindOf q) refl
-    short false l = rw l (rw l)
-
-module _ (q : List ℕ) where
-  pub form-broken : Broken ≡ formOf q → requestOf q ≡ none
-  form-broken e = subst (Means q) (sym e) (means q)
-
-  pub form-test-write : (t : Table) → TestWrite t ≡ formOf q → (t ≡ tableOf q) × (testWriteOk q ≡ true) × (length q ≤ requestLimit) × (requestOf q ≡ some (testWriteOf q))
-  form-test-write t e = subst (Means q) (sym e) (means q)
-
-  pub form-add : Add ≡ formOf q → (addOk q ≡ true) × (requestOf q ≡ some (add (drop 1 q)))
-  form-add e = subst (Means q) (sym e) (means q)
-
-  pub form-renew : Renew ≡ formOf q → (renewOk q ≡ true) × (requestOf q ≡ some (renew (take 32 (drop 1 q)) (numberAt 4 33 q)))
-  form-renew e = subst (Means q) (sym e) (means q)
-
-  pub form-cancel : Cancel ≡ formOf q → (cancelOk q ≡ true) × (requestOf q ≡ some (cancel (drop 1 q)))
-  form-cancel e = subst (Means q) (sym e) (means q)
-
-  pub form-read : (n : ℕ) → Read n ≡ formOf q → (n ≡ readCount q) × (readOk q ≡ true) × (requestOf q ≡ some (read (readsFrom (readCount q) readsAt q)))
-  form-read n e = subst (Means q) (sym e) (means q)
+pub empty-kind : (q : List ℕ) → length q ≡ 0 → Takes q (requestOf q) Broken
+unfolding requestOf kindOf byKind
+empty-kind [] e = takes-broken [] none refl
+empty-kind (x ∷ q) e = absurd (omega arith)

@@ -1,36 +1,55 @@
--- What a cursor's methods read.
-use Prim.Native.Nat.{ℕ, _+_}
+-- What a cursor's methods read at p, and the place after it.
+use Prim.Native.Nat.{ℕ, _+_, _-_}
 use mathlib.Core.List.{List}
-use lib.IntN.{ℤ}
-use lib.ListN.{getD}
+use lib.ListN.{getD, take, drop}
 use Rattle.octets.specs.Numbers.{numberAt}
-use Rattle.rules.specs.Requests.{entryOffset, entryCount}
-use Rattle.rules.specs.Testing.{resolves, position}
-use Rattle.requests.specs.declared.cursors.Resolved.{Resolved}
+use Rattle.rules.specs.Requests.{entrySize, paddingAt, testSize, entryOffset, entryCount, entryOpcode, entrySpecimen}
+use Rattle.requests.specs.declared.cursors.Byte.{Byte}
+use Rattle.requests.specs.declared.cursors.Number.{Number}
+use Rattle.requests.specs.declared.cursors.Body.{Body}
 use Rattle.requests.specs.declared.cursors.Entry.{Entry}
 use Rattle.requests.specs.declared.cursors.TestEntry.{TestEntry}
 use Rattle.requests.specs.declared.cursors.Header.{Header}
+use Rattle.requests.specs.declared.cursors.ReadHeader.{ReadHeader}
 
-abbrev pub resolvedOf : ℤ → ℕ → Resolved
-resolvedOf o size = record { resolves = resolves o size; position = position o size }
+abbrev pub byteAt : ℕ → List ℕ → Byte
+byteAt p q = record { value = getD q p 0; next = record { at = p + 1 } }
 
--- The offset and length at p, and the place after them.
-abbrev pub entryAt : ℕ → List ℕ → ℕ → Entry
-entryAt p q size = record {
-  resolves = resolves (entryOffset p q) size;
-  position = position (entryOffset p q) size;
-  count = entryCount p q;
-  next = record { at = p + 8 };
+abbrev pub numberIn : ℕ → List ℕ → Number
+numberIn p q = record { value = numberAt 4 p q; next = record { at = p + 4 } }
+
+abbrev pub bodyAt : ℕ → ℕ → Body
+bodyAt p n = record { from = p; to = p + n; next = record { at = p + n } }
+
+-- The bytes of a body.
+abbrev pub bodyOf : Body → List ℕ → List ℕ
+bodyOf b q = take (b .to - b .from) (drop (b .from) q)
+
+abbrev pub entryAt : ℕ → ℕ → List ℕ → Entry
+entryAt p stride q = record { offset = entryOffset p q; count = entryCount p q; next = record { at = p + stride } }
+
+abbrev pub testAt : ℕ → List ℕ → TestEntry
+testAt p q = record {
+  entry = entryAt p entrySize q;
+  opcode = entryOpcode p q;
+  padding = getD q (p + paddingAt) 0;
+  specimen = entrySpecimen p q;
+  next = record { at = p + testSize };
 }
-
-abbrev pub testEntryAt : ℕ → List ℕ → TestEntry
-testEntryAt p q = record { opcode = getD q p 0; zero = getD q (p + 1) 0; specimen = numberAt 2 (p + 2) q; next = record { at = p + 4 } }
 
 abbrev pub headerAt : ℕ → List ℕ → Header
 headerAt p q = record {
-  tests = getD q (p + 1) 0;
-  writes = getD q (p + 2) 0;
-  flag = getD q (p + 3) 0;
-  new = numberAt 4 (p + 4) q;
-  next = record { at = p + 40 };
+  tests = getD q p 0;
+  writes = getD q (p + 1) 0;
+  flag = getD q (p + 2) 0;
+  new = numberAt 4 (p + 3) q;
+  next = record { at = p + 7 };
+}
+
+abbrev pub readHeaderAt : ℕ → List ℕ → ReadHeader
+readHeaderAt p q = record {
+  reads = getD q p 0;
+  first = getD q (p + 1) 0;
+  second = getD q (p + 2) 0;
+  next = record { at = p + 3 };
 }

@@ -1,45 +1,129 @@
--- The form of a request: the kinds whose format holds, with the places of their tables.
-use Prim.Native.Nat.{ℕ}
-use mathlib.Core.Bool.{Bool, true, false, not}
+-- What taking a request apart answers: the request that each form stands for, and that what it names lies inside the bytes.
+use Prim.Native.Nat.{ℕ, _+_, _*_, _≤_}
+use mathlib.Core.Path.{_≡_}
+use mathlib.Core.Bool.{Bool, true, cond, not, _&&_}
 use mathlib.Core.List.{List}
+use mathlib.Core.Option.{Option, none, some}
 use lib.Dec.{eqb, leb}
 use lib.ListN.{length}
-use Rattle.rules.specs.Requests.{requestLimit, testCount, writeCount, cutFlag, newLength, specimensAt, newDataAt, testWriteOk, addOk, renewOk, cancelOk, readCount, readOk, kindOf}
+use Rattle.octets.specs.Lists.{isSome}
+use Rattle.format.specs.Layout.{recordSize, secretSize}
+use Rattle.format.specs.Container.{held}
+use Rattle.rules.specs.Requests.{Test, Read, Write, Request, testWrite, add, renew, cancel, read, requestLimit}
+use Rattle.rules.specs.Requests.{entryLimit, entrySize, testSize, entryCount, entrySpecimen, testEntryOk, allFrom}
+use Rattle.rules.specs.Requests.{sumFrom, testsFrom, writesFrom, readsFrom}
+use Rattle.requests.specs.Cursors.{bodyOf}
+use Rattle.requests.specs.declared.cursors.Cursor.{Cursor}
+use Rattle.requests.specs.declared.cursors.Body.{Body}
+use Rattle.requests.specs.declared.cursors.Header.{Header}
 use Rattle.requests.specs.declared.forms.Table.{Table}
+use Rattle.requests.specs.declared.forms.Cut.{Cut}
+use Rattle.requests.specs.declared.forms.Parted.{Parted}
+use Rattle.requests.specs.declared.forms.TestsPassed.{TestsPassed}
+use Rattle.requests.specs.declared.forms.WritesPassed.{WritesPassed}
 use Rattle.requests.specs.declared.forms.Form.{Form}
-use Rattle.requests.specs.declared.forms.Form.the-variants.{Broken, TestWrite, Add, Renew, Cancel, Read}
+use Rattle.requests.specs.declared.forms.Form.the-variants.{Broken, TestWrite, Add, Renew, Cancel, Read as ReadForm}
 
-abbrev pub tableOf : List ℕ → Table
-tableOf q = record {
-  tests = testCount q;
-  writes = writeCount q;
-  cut = not (eqb (cutFlag q) 0);
-  new = newLength q;
-  specimens = specimensAt q;
-  bodies = newDataAt q;
+-- ---- what each form stands for
+-- The outcome's number for each case: 3 for a request that breaks its format, 0 for every other.
+abbrev pub formNumber : Form → ℕ
+formNumber Broken = 3
+formNumber (TestWrite t) = 0
+formNumber (Add b) = 0
+formNumber (Renew b x) = 0
+formNumber (Cancel b) = 0
+formNumber (ReadForm t) = 0
+
+-- The parts of a test-and-write, and the reads of a table.
+abbrev pub testsIn : Parted → List ℕ → List Test
+testsIn t q = testsFrom (t .tests .count) (t .tests .first .at) (t .specimens .at) q
+
+abbrev pub writesIn : Parted → List ℕ → List Write
+writesIn t q = writesFrom (t .writes .count) (t .writes .first .at) (t .bodies .at) q
+
+abbrev pub cutIn : Cut → Option ℕ
+cutIn c = cond (c .set) (some (c .length)) none
+
+abbrev pub writeIn : Parted → List ℕ → Request
+writeIn t q = testWrite (bodyOf (t .enabler) q) (testsIn t q) (writesIn t q) (cutIn (t .cut))
+
+abbrev pub readIn : Table → List ℕ → Request
+readIn t q = read (readsFrom (t .count) (t .first .at) q)
+
+-- The request that a form of the bytes q stands for.
+abbrev pub asked : List ℕ → Form → Option Request
+asked q Broken = none
+asked q (TestWrite t) = some (writeIn t q)
+asked q (Add b) = some (add (bodyOf b q))
+asked q (Renew b x) = some (renew (bodyOf b q) x)
+asked q (Cancel b) = some (cancel (bodyOf b q))
+asked q (ReadForm t) = some (readIn t q)
+
+-- ---- inside the request
+-- A body of n bytes.
+pub record BodyIn (q : List ℕ) (b : Body) (n : ℕ) : Type 0 where
+  pub size : b .from + n ≡ b .to
+  pub fits : b .to ≤ length q
+
+-- A table of tests, writes or reads.
+pub record TableIn (q : List ℕ) (t : Table) : Type 0 where
+  pub wide : entrySize ≤ t .stride
+  pub narrow : t .stride ≤ testSize
+  pub few : t .count ≤ entryLimit
+  pub inside : t .first .at + t .stride * t .count ≤ length q
+
+-- A test-and-write's parts.
+pub record PartedIn (q : List ℕ) (t : Parted) : Type 0 where
+  pub short : length q ≤ requestLimit
+  pub enabler : BodyIn q (t .enabler) secretSize
+  pub tests : TableIn q (t .tests)
+  pub tests-stride : t .tests .stride ≡ testSize
+  pub writes : TableIn q (t .writes)
+  pub writes-stride : t .writes .stride ≡ entrySize
+  pub specimens :
+      t .specimens .at + sumFrom (λ p. entrySpecimen p q) testSize (t .tests .count) (t .tests .first .at) ≤ length q
+  pub bodies :
+      t .bodies .at + sumFrom (λ p. entryCount p q) entrySize (t .writes .count) (t .writes .first .at) ≤ length q
+
+-- A record that is added has an owner.
+abbrev pub Inside : List ℕ → Form → Type 0
+Inside q Broken = Unit {0}
+Inside q (TestWrite t) = PartedIn q t
+Inside q (Add b) = BodyIn q b recordSize × (held (bodyOf b q) ≡ true)
+Inside q (Renew b x) = BodyIn q b secretSize
+Inside q (Cancel b) = BodyIn q b secretSize
+Inside q (ReadForm t) = TableIn q t × (t .stride ≡ entrySize)
+
+-- The form r of the bytes q stands for the request w, if any.
+pub record Takes (q : List ℕ) (w : Option Request) (r : Form) : Type 0 where
+  pub number : formNumber r ≡ cond (isSome w) 0 3
+  pub asks : asked q r ≡ w
+  pub inside : Inside q r
+
+-- ---- steps on the way
+-- An opcode 1 to 6 and a zero byte.
+abbrev pub entryOk : ℕ → ℕ → Bool
+entryOk opcode padding = leb 1 opcode && (leb opcode 6 && eqb padding 0)
+
+-- What passing over n entries from p on finds.
+abbrev pub testsPassed : ℕ → ℕ → List ℕ → TestsPassed
+testsPassed p n q = record {
+  good = allFrom (testEntryOk q) testSize n p;
+  length = sumFrom (λ i. entrySpecimen i q) testSize n p;
+  next = record { at = p + testSize * n };
 }
 
-abbrev pub pick : Bool → Form → Form → Form
-pick true a b = a
-pick false a b = b
+abbrev pub writesPassed : ℕ → ℕ → List ℕ → WritesPassed
+writesPassed p n q =
+    record { length = sumFrom (λ i. entryCount i q) entrySize n p; next = record { at = p + entrySize * n } }
 
-unfoldable pub testWriteForm : List ℕ → Form
-testWriteForm q = pick (testWriteOk q) (TestWrite (tableOf q)) Broken
-
-unfoldable pub readForm : List ℕ → Form
-readForm q = pick (readOk q) (Read (readCount q)) Broken
-
-unfoldable pub leaseForm : ℕ → List ℕ → Form
-leaseForm k q =
-    pick (eqb k 2) (pick (addOk q) Add Broken)
-    (pick (eqb k 3) (pick (renewOk q) Renew Broken)
-    (pick (cancelOk q) Cancel Broken))
-
--- By the first byte, as `requestOf` reads it.
-unfoldable pub formOf : List ℕ → Form
-formOf q =
-    pick (leb (length q) requestLimit)
-    (pick (eqb (kindOf q) 1) (testWriteForm q)
-    (pick (eqb (kindOf q) 5) (readForm q)
-    (pick (leb 2 (kindOf q)) (pick (leb (kindOf q) 4) (leaseForm (kindOf q) q) Broken) Broken)))
-    Broken
+-- The form of parts that have been found: tests begin behind the enabler.
+abbrev pub partedAs : Header → Body → Cursor → Cursor → Cursor → Form
+partedAs h e ws ss bs = TestWrite (record {
+  enabler = e;
+  tests = record { first = e .next; count = h .tests; stride = testSize };
+  writes = record { first = ws; count = h .writes; stride = entrySize };
+  specimens = ss;
+  bodies = bs;
+  cut = record { set = not (eqb (h .flag) 0); length = h .new };
+})

@@ -1,36 +1,60 @@
-// A cursor over a request, handed on by value: each method takes it and returns the next one beside what it read.
+// A cursor over a request, handed on by value: each method takes it and returns the next one beside what it read. Nothing
+// else reads a request's bytes.
 ghost use mathlib.Core.Path.{_≡_};
 ghost use Prim.Native.Nat.{_+_, _≤_};
 ghost use lib.ListN.{length};
-ghost use Rattle.requests.specs.Cursors.{resolvedOf, entryAt, testEntryAt, headerAt};
+ghost use Rattle.rules.specs.Requests.{entrySize, testSize};
+ghost use Rattle.requests.specs.Cursors.{byteAt, numberIn, bodyAt, bodyOf, entryAt, testAt, headerAt};
+ghost use Rattle.requests.specs.Cursors.{readHeaderAt};
+
+// An entry of a table: offset 4, length 4.
+pub const ENTRY_SIZE: usize = 8;
+
+// A test's entry goes on: opcode 1, a zero byte, specimen length 2.
+const PADDING_AT: usize = ENTRY_SIZE + 1;
+
+const SPECIMEN_AT: usize = PADDING_AT + 1;
+
+pub const TEST_SIZE: usize = SPECIMEN_AT + 2;
 
 pub struct Cursor {
     pub at: usize,
 }
 
-// An offset resolved on data of some size: whether it names a position, and which (0 where it names none).
-pub struct Resolved {
-    pub resolves: bool,
-    pub position: usize,
+pub struct Byte {
+    pub value: u8,
+    pub next: Cursor,
 }
 
-// The offset and length of a table's entry, the offset resolved.
+pub struct Number {
+    pub value: u32,
+    pub next: Cursor,
+}
+
+// A run of bytes: where it begins and ends.
+pub struct Body {
+    pub from: usize,
+    pub to: usize,
+    pub next: Cursor,
+}
+
+// An entry's offset and length.
 pub struct Entry {
-    pub resolves: bool,
-    pub position: usize,
+    pub offset: i32,
     pub count: usize,
     pub next: Cursor,
 }
 
-// What a test's entry holds after its offset and length.
+// A test's entry.
 pub struct TestEntry {
+    pub entry: Entry,
     pub opcode: u8,
-    pub zero: u8,
+    pub padding: u8,
     pub specimen: usize,
     pub next: Cursor,
 }
 
-// The fixed part of a test-and-write, up to its tables.
+// What follows the kind of a test-and-write, up to its enabler.
 pub struct Header {
     pub tests: usize,
     pub writes: usize,
@@ -39,70 +63,133 @@ pub struct Header {
     pub next: Cursor,
 }
 
-// How an offset is resolved.
-pub fn resolve(offset: i32, size: usize) -> Resolved
-    ensures { λ r. ⌜ r ≡ resolvedOf offset size ⌝ }
-{
-    if offset < 0 {
-        return Resolved {
-            resolves: false,
-            position: 0,
-        };
-    }
-    Resolved {
-        resolves: true,
-        position: offset as usize,
+// What follows the kind of a read, up to its table.
+pub struct ReadHeader {
+    pub reads: usize,
+    pub first: u8,
+    pub second: u8,
+    pub next: Cursor,
+}
+
+impl Body {
+    pub fn bytes(self, q: &[u8]) -> &[u8]
+        requires { ⌜ (self .from ≤ self .to) × (self .to ≤ length (now q)) ⌝ }
+        ensures { λ r. ⌜ now r ≡ bodyOf self (now (q .entry)) ⌝ }
+    {
+        let from = self.from;
+        let to = self.to;
+        &q[from..to]
     }
 }
 
 impl Cursor {
-    // Offset 4, length 4.
-    pub fn entry(self, q: &[u8], size: usize) -> Entry
-        requires { ⌜ self .at + 8 ≤ length (now q) ⌝ }
-        ensures { λ r. ⌜ r ≡ entryAt (self .at) (now (q .entry)) size ⌝ }
+    pub fn start() -> Cursor
+        ensures { λ r. ⌜ r .at ≡ 0 ⌝ }
+    {
+        Cursor { at: 0 }
+    }
+
+    pub fn byte(self, q: &[u8]) -> Byte
+        requires { ⌜ self .at + 1 ≤ length (now q) ⌝ }
+        ensures { λ r. ⌜ r ≡ byteAt (self .at) (now (q .entry)) ⌝ }
     {
         let at = self.at;
-        let place = resolve(octets::numbers::i32_at(q, at), size);
-        let count = octets::numbers::u32_at(q, at + 4) as usize;
-        Entry {
-            resolves: place.resolves,
-            position: place.position,
-            count: count,
-            next: Cursor { at: at + 8 },
+        Byte {
+            value: q[at],
+            next: Cursor { at: at + 1 },
         }
     }
 
-    // Opcode 1, a zero byte, specimen length 2.
-    pub fn test_entry(self, q: &[u8]) -> TestEntry
+    // An unsigned number of 4 bytes.
+    pub fn number(self, q: &[u8]) -> Number
         requires { ⌜ self .at + 4 ≤ length (now q) ⌝ }
-        ensures { λ r. ⌜ r ≡ testEntryAt (self .at) (now (q .entry)) ⌝ }
+        ensures { λ r. ⌜ r ≡ numberIn (self .at) (now (q .entry)) ⌝ }
     {
         let at = self.at;
-        let specimen = octets::numbers::u16_at(q, at + 2) as usize;
-        TestEntry {
-            opcode: q[at],
-            zero: q[at + 1],
-            specimen: specimen,
+        let value = octets::numbers::u32_at(q, at);
+        Number {
+            value: value,
             next: Cursor { at: at + 4 },
         }
     }
 
-    // T, V, cut flag, new length 4; the enabler's 32 bytes are passed over.
+    // The next n bytes.
+    pub fn body(self, q: &[u8], n: usize) -> Body
+        requires { ⌜ self .at + n ≤ length (now q) ⌝ }
+        ensures { λ r. ⌜ r ≡ bodyAt (self .at) n ⌝ }
+    {
+        let at = self.at;
+        let to = at + n;
+        Body {
+            from: at,
+            to: to,
+            next: Cursor { at: to },
+        }
+    }
+
+    // Offset 4, length 4; the next entry stands `stride` bytes after this one.
+    pub fn entry(self, q: &[u8], stride: usize) -> Entry
+        requires { ⌜ (entrySize ≤ stride) × (self .at + stride ≤ length (now q)) ⌝ }
+        ensures { λ r. ⌜ r ≡ entryAt (self .at) stride (now (q .entry)) ⌝ }
+    {
+        let at = self.at;
+        let offset = octets::numbers::i32_at(q, at);
+        let count = octets::numbers::u32_at(q, at + 4) as usize;
+        Entry {
+            offset: offset,
+            count: count,
+            next: Cursor { at: at + stride },
+        }
+    }
+
+    // A test's entry: then opcode 1, a zero byte, specimen length 2.
+    pub fn test(self, q: &[u8]) -> TestEntry
+        requires { ⌜ self .at + testSize ≤ length (now q) ⌝ }
+        ensures { λ r. ⌜ r ≡ testAt (self .at) (now (q .entry)) ⌝ }
+    {
+        let at = self.at;
+        let entry = self.entry(q, ENTRY_SIZE);
+        let specimen = octets::numbers::u16_at(q, at + SPECIMEN_AT) as usize;
+        TestEntry {
+            entry: entry,
+            opcode: q[at + ENTRY_SIZE],
+            padding: q[at + PADDING_AT],
+            specimen: specimen,
+            next: Cursor { at: at + TEST_SIZE },
+        }
+    }
+
+    // T, V, cut flag, new length 4.
     pub fn header(self, q: &[u8]) -> Header
-        requires { ⌜ self .at + 40 ≤ length (now q) ⌝ }
+        requires { ⌜ self .at + 7 ≤ length (now q) ⌝ }
         ensures { λ r. ⌜ r ≡ headerAt (self .at) (now (q .entry)) ⌝ }
     {
         let at = self.at;
-        let tests = q[at + 1] as usize;
-        let writes = q[at + 2] as usize;
-        let flag = q[at + 3] as usize;
-        let new = octets::numbers::u32_at(q, at + 4) as usize;
+        let tests = q[at] as usize;
+        let writes = q[at + 1] as usize;
+        let flag = q[at + 2] as usize;
+        let new = octets::numbers::u32_at(q, at + 3) as usize;
         Header {
             tests: tests,
             writes: writes,
             flag: flag,
             new: new,
-            next: Cursor { at: at + 40 },
+            next: Cursor { at: at + 7 },
+        }
+    }
+
+    // R, two bytes.
+    pub fn read_header(self, q: &[u8]) -> ReadHeader
+        requires { ⌜ self .at + 3 ≤ length (now q) ⌝ }
+        ensures { λ r. ⌜ r ≡ readHeaderAt (self .at) (now (q .entry)) ⌝ }
+    {
+        let at = self.at;
+        let reads = q[at] as usize;
+        ReadHeader {
+            reads: reads,
+            first: q[at + 1],
+            second: q[at + 2],
+            next: Cursor { at: at + 3 },
         }
     }
 }

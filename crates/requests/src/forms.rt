@@ -1,88 +1,124 @@
-// The form of a whole request: its kind and the places of its tables, or broken (outcome 3).
+// The form of a whole request: its kind and where its parts stand, or broken (outcome 3).
 ghost use mathlib.Core.Path.{_≡_};
 ghost use Prim.Native.Nat.{_+_, _*_, _≤_};
 ghost use lib.ListN.{length};
-ghost use Rattle.rules.specs.Requests.{testEntryOk, allFrom, sumFrom, entrySpecimen, entryCount, testsAt, cutOk};
-ghost use Rattle.requests.specs.Forms.{testWriteForm, readForm, leaseForm, formOf};
+ghost use Rattle.rules.specs.Requests.{requestLimit, entryLimit, entrySize, testSize, cutOk, byKind, requestOf};
+ghost use Rattle.requests.specs.Forms.{entryOk, testsPassed, writesPassed, partedAs, Takes};
+use crate::cursors::Body;
 use crate::cursors::Cursor;
+use crate::cursors::ENTRY_SIZE;
+use crate::cursors::Header;
+use crate::cursors::TEST_SIZE;
+use format::layout::RECORD_SIZE;
+use format::layout::SECRET_SIZE;
 
-// The tables of a test-and-write: how many tests and writes, the cut, where specimens and new data begin.
+// The longest request, and the longest table.
+pub const REQUEST_LIMIT: usize = 65536;
+
+pub const ENTRY_LIMIT: usize = 16;
+
+// Where the tables begin: of a test-and-write, of a read.
+const TESTS_AT: usize = 8 + SECRET_SIZE;
+
+const READS_AT: usize = 4;
+
+// A table: its first entry, how many there are, and how far apart they stand.
 pub struct Table {
-    pub tests: usize,
-    pub writes: usize,
-    pub cut: bool,
-    pub new: usize,
-    pub specimens: usize,
-    pub bodies: usize,
+    pub first: Cursor,
+    pub count: usize,
+    pub stride: usize,
+}
+
+// Whether data is cut, and to which length.
+pub struct Cut {
+    pub set: bool,
+    pub length: usize,
+}
+
+// A test-and-write taken apart: specimens and new data stand one after the other from their cursors on.
+pub struct Parted {
+    pub enabler: Body,
+    pub tests: Table,
+    pub writes: Table,
+    pub specimens: Cursor,
+    pub bodies: Cursor,
+    pub cut: Cut,
 }
 
 pub enum Form {
     Broken,
-    TestWrite(Table),
-    Add,
-    Renew,
-    Cancel,
-    Read(usize),
+    TestWrite(Parted),
+    Add(Body),
+    Renew(Body, u32),
+    Cancel(Body),
+    Read(Table),
 }
 
-// Each of the n test entries has an opcode 1 to 6 and its zero byte.
-fn tests_ok(q: &[u8], n: usize) -> bool
-    requires { ⌜ testsAt + 12 * n ≤ length (now q) ⌝ }
-    ensures { λ r. ⌜ r ≡ allFrom (testEntryOk (now (q .entry))) 12 n testsAt ⌝ }
+// What passing over a table of tests finds: whether every entry is good, the specimens' lengths added up, the place after.
+pub(crate) struct TestsPassed {
+    pub(crate) good: bool,
+    pub(crate) length: usize,
+    pub(crate) next: Cursor,
+}
+
+// The same of a table of writes: the new data's lengths added up.
+pub(crate) struct WritesPassed {
+    pub(crate) length: usize,
+    pub(crate) next: Cursor,
+}
+
+// An opcode 1 to 6 and a zero byte.
+fn entry_ok(opcode: u8, padding: u8) -> bool
+    ensures { λ r. ⌜ r ≡ entryOk opcode padding ⌝ }
+{
+    if opcode < 1 {
+        return false;
+    }
+    if 6 < opcode {
+        return false;
+    }
+    padding == 0
+}
+
+fn pass_tests(q: &[u8], first: Cursor, n: usize) -> TestsPassed
+    requires { ⌜ (first .at + testSize * n ≤ length (now q)) × (n ≤ entryLimit) ⌝ }
+    ensures { λ r. ⌜ r ≡ testsPassed (first .at) n (now (q .entry)) ⌝ }
 {
     let mut left = n;
-    let mut cursor = Cursor { at: 40 };
+    let mut cursor = first;
+    let mut good = true;
+    let mut length = 0;
     while 0 < left {
-        let at = cursor.at;
-        let tail = Cursor { at: at + 8 }.test_entry(q);
-        if tail.opcode < 1 {
-            return false;
-        }
-        if 6 < tail.opcode {
-            return false;
-        }
-        if tail.zero != 0 {
-            return false;
-        }
-        cursor = tail.next;
+        let test = cursor.test(q);
+        good = octets::choices::both(good, entry_ok(test.opcode, test.padding));
+        length += test.specimen;
+        cursor = test.next;
         left -= 1;
     }
-    true
-}
-
-// The specimens' lengths, added up.
-fn specimens_length(q: &[u8], n: usize) -> usize
-    requires { ⌜ (testsAt + 12 * n ≤ length (now q)) × (n ≤ 16) ⌝ }
-    ensures { λ r. ⌜ r ≡ sumFrom (λ p. entrySpecimen p (now (q .entry))) 12 n testsAt ⌝ }
-{
-    let mut left = n;
-    let mut cursor = Cursor { at: 40 };
-    let mut sum = 0;
-    while 0 < left {
-        let at = cursor.at;
-        let tail = Cursor { at: at + 8 }.test_entry(q);
-        sum += tail.specimen;
-        cursor = tail.next;
-        left -= 1;
+    TestsPassed {
+        good: good,
+        length: length,
+        next: cursor,
     }
-    sum
 }
 
-// The writes' lengths, added up.
-fn bodies_length(q: &[u8], from: usize, n: usize) -> usize
-    requires { ⌜ (from + 8 * n ≤ length (now q)) × (n ≤ 16) ⌝ }
-    ensures { λ r. ⌜ r ≡ sumFrom (λ p. entryCount p (now (q .entry))) 8 n from ⌝ }
+fn pass_writes(q: &[u8], first: Cursor, n: usize) -> WritesPassed
+    requires { ⌜ (first .at + entrySize * n ≤ length (now q)) × (n ≤ entryLimit) ⌝ }
+    ensures { λ r. ⌜ r ≡ writesPassed (first .at) n (now (q .entry)) ⌝ }
 {
     let mut left = n;
-    let mut cursor = Cursor { at: from };
-    let mut sum = 0;
+    let mut cursor = first;
+    let mut length = 0;
     while 0 < left {
-        let entry = cursor.entry(q, 0);
-        sum += entry.count;
+        let entry = cursor.entry(q, ENTRY_SIZE);
+        length += entry.count;
         cursor = entry.next;
         left -= 1;
     }
-    sum
+    WritesPassed {
+        length: length,
+        next: cursor,
+    }
 }
 
 // The cut flag is 0 or 1, and the new length is 0 when it is 0.
@@ -95,119 +131,166 @@ fn cut_ok(flag: usize, new: usize) -> bool
     flag == 1
 }
 
-// Kind 1.
-fn test_write_form(q: &[u8]) -> Form
-    ensures { λ r. ⌜ r ≡ testWriteForm (now (q .entry)) ⌝ }
+// A test-and-write whose parts have been found.
+fn found(header: Header, enabler: Body, writes: Cursor, specimens: Cursor, bodies: Cursor) -> Form
+    ensures { λ r. ⌜ r ≡ partedAs header enabler writes specimens bodies ⌝ }
+{
+    let tests = enabler.next;
+    let count = header.tests;
+    Form::TestWrite(Parted {
+        enabler: enabler,
+        tests: Table {
+            first: tests,
+            count: count,
+            stride: TEST_SIZE,
+        },
+        writes: Table {
+            first: writes,
+            count: header.writes,
+            stride: ENTRY_SIZE,
+        },
+        specimens: specimens,
+        bodies: bodies,
+        cut: Cut {
+            set: header.flag != 0,
+            length: header.new,
+        },
+    })
+}
+
+// Kind 1, after its kind.
+fn test_write_form(q: &[u8], at: Cursor) -> Form
+    requires { ⌜ (at .at ≡ 1) × (length (now q) ≤ requestLimit) ⌝ }
+    ensures { λ r. ⌜ Takes (now (q .entry)) (byKind 1 (now (q .entry))) r ⌝ }
 {
     let n = q.len();
-    if n < 40 {
+    if n < TESTS_AT {
         return Form::Broken;
     }
-    let header = Cursor { at: 0 }.header(q);
+    let header = at.header(q);
     let tests = header.tests;
     let writes = header.writes;
-    if 16 < tests {
+    if ENTRY_LIMIT < tests {
         return Form::Broken;
     }
-    if 16 < writes {
+    if ENTRY_LIMIT < writes {
         return Form::Broken;
     }
     if !cut_ok(header.flag, header.new) {
         return Form::Broken;
     }
-    let table = 40 + 12 * tests;
-    let specimens = table + 8 * writes;
-    if n < specimens {
+    if n < TESTS_AT + TEST_SIZE * tests + ENTRY_SIZE * writes {
         return Form::Broken;
     }
-    if !tests_ok(q, tests) {
+    let enabler = header.next.body(q, SECRET_SIZE);
+    let tested = pass_tests(q, enabler.next, tests);
+    if !tested.good {
         return Form::Broken;
     }
-    let bodies = specimens + specimens_length(q, tests);
-    if bodies + bodies_length(q, table, writes) != n {
+    let written = pass_writes(q, tested.next, writes);
+    let specimens = written.next;
+    if specimens.at + tested.length + written.length != n {
         return Form::Broken;
     }
-    Form::TestWrite(Table {
-        tests: tests,
-        writes: writes,
-        cut: header.flag != 0,
-        new: header.new,
-        specimens: specimens,
-        bodies: bodies,
+    let bodies = specimens.body(q, tested.length).next;
+    found(header, enabler, tested.next, specimens, bodies)
+}
+
+// Kind 5, after its kind.
+fn read_form(q: &[u8], at: Cursor) -> Form
+    requires { ⌜ at .at ≡ 1 ⌝ }
+    ensures { λ r. ⌜ Takes (now (q .entry)) (byKind 5 (now (q .entry))) r ⌝ }
+{
+    let n = q.len();
+    if n < READS_AT {
+        return Form::Broken;
+    }
+    let header = at.read_header(q);
+    let reads = header.reads;
+    if ENTRY_LIMIT < reads {
+        return Form::Broken;
+    }
+    if header.first != 0 {
+        return Form::Broken;
+    }
+    if header.second != 0 {
+        return Form::Broken;
+    }
+    if READS_AT + ENTRY_SIZE * reads != n {
+        return Form::Broken;
+    }
+    let first = header.next;
+    Form::Read(Table {
+        first: first,
+        count: reads,
+        stride: ENTRY_SIZE,
     })
 }
 
-// Kind 5.
-fn read_form(q: &[u8]) -> Form
-    ensures { λ r. ⌜ r ≡ readForm (now (q .entry)) ⌝ }
+// Kind 2, after its kind: a record with an owner, which is its first number.
+fn add_form(q: &[u8], at: Cursor) -> Form
+    requires { ⌜ at .at ≡ 1 ⌝ }
+    ensures { λ r. ⌜ Takes (now (q .entry)) (byKind 2 (now (q .entry))) r ⌝ }
 {
-    let n = q.len();
-    if n < 4 {
+    if q.len() != 1 + RECORD_SIZE {
         return Form::Broken;
     }
-    let reads = q[1] as usize;
-    if 16 < reads {
+    if at.number(q).value == 0 {
         return Form::Broken;
     }
-    if q[2] != 0 {
-        return Form::Broken;
-    }
-    if q[3] != 0 {
-        return Form::Broken;
-    }
-    if 4 + 8 * reads != n {
-        return Form::Broken;
-    }
-    Form::Read(reads)
+    Form::Add(at.body(q, RECORD_SIZE))
 }
 
-// Kinds 2, 3 and 4 by length; an added record has an owner.
-fn lease_form(q: &[u8], kind: u8) -> Form
-    ensures { λ r. ⌜ r ≡ leaseForm kind (now (q .entry)) ⌝ }
+// Kind 3, after its kind: a token, then an expiry.
+fn renew_form(q: &[u8], at: Cursor) -> Form
+    requires { ⌜ at .at ≡ 1 ⌝ }
+    ensures { λ r. ⌜ Takes (now (q .entry)) (byKind 3 (now (q .entry))) r ⌝ }
 {
-    if kind == 2 {
-        if q.len() != 93 {
-            return Form::Broken;
-        }
-        if octets::numbers::u32_at(q, 1) == 0 {
-            return Form::Broken;
-        }
-        return Form::Add;
-    }
-    if kind == 3 {
-        if q.len() != 37 {
-            return Form::Broken;
-        }
-        return Form::Renew;
-    }
-    if q.len() != 33 {
+    if q.len() != 1 + SECRET_SIZE + 4 {
         return Form::Broken;
     }
-    Form::Cancel
+    let token = at.body(q, SECRET_SIZE);
+    Form::Renew(token, token.next.number(q).value)
+}
+
+// Kind 4, after its kind: a token.
+fn cancel_form(q: &[u8], at: Cursor) -> Form
+    requires { ⌜ at .at ≡ 1 ⌝ }
+    ensures { λ r. ⌜ Takes (now (q .entry)) (byKind 4 (now (q .entry))) r ⌝ }
+{
+    if q.len() != 1 + SECRET_SIZE {
+        return Form::Broken;
+    }
+    Form::Cancel(at.body(q, SECRET_SIZE))
 }
 
 // By the first byte. The empty request and an unknown kind are broken.
 pub fn form_of(q: &[u8]) -> Form
-    ensures { λ r. ⌜ r ≡ formOf (now (q .entry)) ⌝ }
+    ensures { λ r. ⌜ Takes (now (q .entry)) (requestOf (now (q .entry))) r ⌝ }
 {
     if q.len() == 0 {
         return Form::Broken;
     }
-    if 65536 < q.len() {
+    if REQUEST_LIMIT < q.len() {
         return Form::Broken;
     }
-    let kind = q[0];
-    if kind == 1 {
-        return test_write_form(q);
+    let kind = Cursor::start().byte(q);
+    let value = kind.value;
+    let at = kind.next;
+    if value == 1 {
+        return test_write_form(q, at);
     }
-    if kind == 5 {
-        return read_form(q);
+    if value == 2 {
+        return add_form(q, at);
     }
-    if kind < 2 {
-        return Form::Broken;
+    if value == 3 {
+        return renew_form(q, at);
     }
-    if 4 < kind {
-        return Form::Broken;
+    if value == 4 {
+        return cancel_form(q, at);
     }
-    lease_form(q, kind)
+    if value == 5 {
+        return read_form(q, at);
+    }
+    Form::Broken
 }

@@ -9,43 +9,26 @@ use lib.ListN.{length, take, drop, getD, set, length-append, length-drop, length
 use lib.Seq.{drop-at, drop-append-le, length-take-le}
 use lib.Dec.{leb}
 use borrow.Author.Tests.{ltb-false, leb-false}
-use Rattle.format.specs.Container.{held, lastHeld, expiryOf, renewalOf, usedLength, countAt}
-use Rattle.format.specs.Parts.{Parts, Place, Each, Valid, used, extras, noLease}
-use Rattle.format.proofs.WellFormed.{both}
-use Rattle.format.proofs.RoundTrip.{each-append, each-take, each-drop, no-lease}
+use Rattle.format.specs.Container.{held, lastHeld}
+use Rattle.format.specs.Layout.{expiryOf, renewalOf, usedLength, countAt, countSize, fixedPlaces, recordSize}
+use Rattle.format.specs.Parts.{Parts, used, extras, noLease}
+use Rattle.format.specs.Claims.{Place, Valid}
+use Rattle.octets.specs.Lists.{Each, isSome, maybe}
+use Rattle.octets.proofs.ListLaws.{both, each-append, each-take, each-drop}
+use Rattle.format.proofs.RoundTrip.{no-lease}
 use Rattle.rules.specs.Requests.{Request, testWrite, add, renew, cancel, read}
-use Rattle.rules.specs.Testing.{isSome}
-use Rattle.rules.specs.Leasing.{renewedBy, cancelledBy, vacant, firstOf, later, extended, placedAt, trim, dropTail, addedAt, added, renewedAt, renewed, cancelledAt, cancelled, knows, present}
-use Rattle.rules.specs.Outcomes.{withBytes, withLeases, after, Row, row, lowest, rows, roomRows}
-use Rattle.rules.proofs.LeaseLaws.{each-set, each-at, Found, first-found, full-present, length-later, held-later, held-ok, last-drop-set, last-snoc, last-trim, each-trim, length-trim}
-
--- ---- the lowest number is 0 only where no row applies
-pub not-false : (b : Bool) → not b ≡ false → b ≡ true
-not-false true e = refl
-not-false false e = absurd (true≢false e)
-
-pub clear : (n : ℕ) (b : Bool) (rs : List Row) → 0 < n → lowest (row n b ∷ rs) ≡ 0 → (b ≡ false) × (lowest rs ≡ 0)
-unfolding lowest
-clear n true rs h e = absurd (omega arith)
-clear n false rs h e = (refl, e)
-
-pub lowest-append : (a b : List Row) → lowest a ≡ 0 → Each (λ r. 0 < r .number) a → lowest (a ++ b) ≡ lowest b
-unfolding lowest
-lowest-append [] b e h = refl
-lowest-append (r ∷ a) b e h =
-    let z = clear (r .number) (r .applies) a (h .0) e in
-    rw (z .0) (lowest-append a b (z .1) (h .1))
-
-pub lowest-front : (a b : List Row) → Each (λ r. 0 < r .number) a → lowest (a ++ b) ≡ 0 → lowest a ≡ 0
-unfolding lowest
-lowest-front [] b h e = refl
-lowest-front (r ∷ a) b h e =
-    let z = clear (r .number) (r .applies) (a ++ b) (h .0) e in
-    rw (z .0) (lowest-front a b (h .1) (z .1))
+use Rattle.rules.specs.Leasing.{renewedBy, cancelledBy, vacant, firstOf, later, extended, trim, dropTail, added}
+use Rattle.rules.specs.Leasing.{renewed, cancelled, knows, present, placedIn}
+use Rattle.rules.specs.Outcomes.{withBytes, withLeases, after, rows, roomRows, admitRows, findRows}
+use Rattle.octets.specs.Rows.{firstRow}
+use Rattle.rules.proofs.LeaseLaws.{each-set, each-at, Found, first-found, full-present, length-later}
+use Rattle.rules.proofs.LeaseLaws.{held-later, held-ok, last-drop-set, last-snoc, last-trim, each-trim}
+use Rattle.rules.proofs.LeaseLaws.{length-trim}
+use Rattle.octets.proofs.RowLaws.{Numbered, clear, rows-clear}
 
 -- every row has a number
-pub rows-numbered : (p : Parts) (r : Request) (n : ℕ) → Each (λ x. 0 < x .number) (rows p r n)
-unfolding rows
+pub rows-numbered : (p : Parts) (r : Request) (n : ℕ) → Numbered (rows p r n)
+unfolding rows admitRows findRows
 rows-numbered p (testWrite k ts ws cut) n = (omega arith, (omega arith, (omega arith, (omega arith, tt))))
 rows-numbered p (add r) n = (omega arith, tt)
 rows-numbered p (renew t x) n = (omega arith, tt)
@@ -72,7 +55,7 @@ pub record Ordered (ls : List (List ℕ)) : Type 0 where
   pub four : 4 ≤ length ls
   pub few : length ls ≤ 64
   pub places : Each Place ls
-  pub last : lastHeld (drop 4 ls) ≡ true
+  pub last : lastHeld (drop fixedPlaces ls) ≡ true
 
 pub valid-ordered : (p : Parts) → Valid p → Ordered (p .leases)
 valid-ordered p v = record { four = v .four; few = v .few; places = v .places; last = v .last }
@@ -94,7 +77,7 @@ leases-kept p ls v o f = record {
 -- no more places use no more room
 pub used-fewer : (p : Parts) (ls : List (List ℕ)) → Valid p → length ls ≤ length (p .leases) → used (withLeases p ls) ≤ p .room
 unfolding withLeases used extras usedLength
-used-fewer p ls v h = let f : countAt (length (p .bytes)) + 4 + 92 * (length (p .leases) - 4) ≤ p .room = v .fits in omega arith
+used-fewer p ls v h = let f : countAt (length (p .bytes)) + countSize + recordSize * (length (p .leases) - 4) ≤ p .room = v .fits in omega arith
 
 -- a lease record in a place
 pub set-ordered : (ls : List (List ℕ)) (i : ℕ) (r : List ℕ) → Ordered ls → Place r → held r ≡ true → Ordered (set ls i r)
@@ -116,25 +99,25 @@ extended-ordered x ls i h k o =
 pub dropped-ordered : (ls : List (List ℕ)) → 4 ≤ length ls → length ls ≤ 64 → Each Place ls → Ordered (dropTail ls)
 unfolding dropTail
 dropped-ordered ls f m e =
-    let a : List (List ℕ) = take 4 ls in
-    let b : List (List ℕ) = trim (drop 4 ls) in
+    let a : List (List ℕ) = take fixedPlaces ls in
+    let b : List (List ℕ) = trim (drop fixedPlaces ls) in
     let la : length a ≡ 4 = length-take-le 4 ls f in
-    let lb : length b ≤ length (drop 4 ls) = length-trim (drop 4 ls) in
-    let ld : length (drop 4 ls) ≡ length ls - 4 = length-drop 4 ls in
+    let lb : length b ≤ length (drop fixedPlaces ls) = length-trim (drop fixedPlaces ls) in
+    let ld : length (drop fixedPlaces ls) ≡ length ls - 4 = length-drop fixedPlaces ls in
     let lab : length (a ++ b) ≡ length a + length b = length-append a b in
     record {
       four = omega arith;
       few = omega arith;
-      places = each-append Place a b (each-take Place 4 ls e) (each-trim Place (drop 4 ls) (each-drop Place 4 ls e));
-      last = rw (drop-at a b 4 la) (last-trim (drop 4 ls));
+      places = each-append Place a b (each-take Place 4 ls e) (each-trim Place (drop fixedPlaces ls) (each-drop Place 4 ls e));
+      last = rw (drop-at a b 4 la) (last-trim (drop fixedPlaces ls));
     }
 
 pub length-dropped : (ls : List (List ℕ)) → 4 ≤ length ls → length (dropTail ls) ≤ length ls
 unfolding dropTail
 length-dropped ls f =
-    let lb : length (trim (drop 4 ls)) ≤ length (drop 4 ls) = length-trim (drop 4 ls) in
-    let ld : length (drop 4 ls) ≡ length ls - 4 = length-drop 4 ls in
-    let la : length (take 4 ls) ≡ 4 = length-take-le 4 ls f in
+    let lb : length (trim (drop fixedPlaces ls)) ≤ length (drop fixedPlaces ls) = length-trim (drop fixedPlaces ls) in
+    let ld : length (drop fixedPlaces ls) ≡ length ls - 4 = length-drop fixedPlaces ls in
+    let la : length (take fixedPlaces ls) ≡ 4 = length-take-le 4 ls f in
     rw length-append (omega arith)
 
 -- a new extra
@@ -146,25 +129,25 @@ snoc-ordered ls r o h k e =
       four = omega arith;
       few = omega arith;
       places = each-append Place ls (r ∷ []) (o .places) (k, tt);
-      last = rw (drop-append-le 4 ls (r ∷ []) f) (last-snoc (drop 4 ls) r ∙ e);
+      last = rw (drop-append-le 4 ls (r ∷ []) f) (last-snoc (drop fixedPlaces ls) r ∙ e);
     }
 
 -- what the requests make of ordered places
 pub renewed-ordered : (t : List ℕ) (x : ℕ) (ls : List (List ℕ)) → Ordered ls → Ordered (renewed t x ls) × (length (renewed t x ls) ≡ length ls)
-unfolding renewed renewedAt extended renewedBy
+unfolding renewed maybe extended renewedBy
 renewed-ordered t x ls o = go (firstOf (renewedBy t) ls) refl
   where
-    go : (f : Option ℕ) → firstOf (renewedBy t) ls ≡ f → Ordered (renewedAt x ls f) × (length (renewedAt x ls f) ≡ length ls)
+    go : (f : Option ℕ) → firstOf (renewedBy t) ls ≡ f → Ordered (maybe ls (extended x ls) f) × (length (maybe ls (extended x ls) f) ≡ length ls)
     go none e = (o, refl)
     go (some i) e =
         let f : Found (renewedBy t) ls i = first-found (renewedBy t) ls i e in
         (extended-ordered x ls i (f .inside) (both _ _ (f .passes) .0) o, length-set ls i _)
 
 pub cancelled-ordered : (t : List ℕ) (ls : List (List ℕ)) → Ordered ls → Ordered (cancelled t ls) × (length (cancelled t ls) ≤ length ls)
-unfolding cancelled cancelledAt
+unfolding cancelled maybe
 cancelled-ordered t ls o = go (firstOf (cancelledBy t) ls) refl
   where
-    go : (f : Option ℕ) → firstOf (cancelledBy t) ls ≡ f → Ordered (cancelledAt ls f) × (length (cancelledAt ls f) ≤ length ls)
+    go : (f : Option ℕ) → firstOf (cancelledBy t) ls ≡ f → Ordered (maybe ls (λ i. dropTail (set ls i noLease)) f) × (length (maybe ls (λ i. dropTail (set ls i noLease)) f) ≤ length ls)
     go none e = (o, omega arith)
     go (some i) e =
         let l : length (set ls i noLease) ≡ length ls = length-set ls i noLease in
@@ -176,10 +159,10 @@ cancelled-ordered t ls o = go (firstOf (cancelledBy t) ls) refl
 -- add: the places stay in order where fewer than 64 leases are present or one has the token
 pub added-ordered : (r : List ℕ) (ls : List (List ℕ)) → Ordered ls → Place r → held r ≡ true →
     (leb 64 (present ls) && not (knows (renewedBy (renewalOf r)) ls)) ≡ false → Ordered (added r ls)
-unfolding added addedAt placedAt knows isSome extended renewedBy
+unfolding added placedIn maybe knows isSome extended renewedBy
 added-ordered r ls o k h n = go (firstOf (renewedBy (renewalOf r)) ls) refl n
   where
-    room : (f : Option ℕ) → firstOf vacant ls ≡ f → (leb 64 (present ls) && true) ≡ false → Ordered (placedAt r ls f)
+    room : (f : Option ℕ) → firstOf vacant ls ≡ f → (leb 64 (present ls) && true) ≡ false → Ordered (maybe (ls ++ (r ∷ [])) (λ i. set ls i r) f)
     room none e m =
         let z : present ls < 64 = leb-false 64 (present ls) (and-true m) in
         let l : present ls ≡ length ls = full-present ls e in
@@ -193,7 +176,7 @@ added-ordered r ls o k h n = go (firstOf (renewedBy (renewalOf r)) ls) refl n
             go false e = refl
     room (some i) e m = set-ordered ls i r o k h
 
-    go : (f : Option ℕ) → firstOf (renewedBy (renewalOf r)) ls ≡ f → (leb 64 (present ls) && not (isSome f)) ≡ false → Ordered (addedAt r ls f)
+    go : (f : Option ℕ) → firstOf (renewedBy (renewalOf r)) ls ≡ f → (leb 64 (present ls) && not (isSome f)) ≡ false → Ordered (maybe (placedIn r ls) (extended (expiryOf r) ls) f)
     go none e m = room (firstOf vacant ls) refl m
     go (some i) e m =
         let f : Found (renewedBy (renewalOf r)) ls i = first-found (renewedBy (renewalOf r)) ls i e in
@@ -202,16 +185,16 @@ added-ordered r ls o k h n = go (firstOf (renewedBy (renewalOf r)) ls) refl n
 -- a request that came out of bytes: an added record has 92 bytes and an owner
 abbrev pub Proper : Request → Type 0
 Proper (testWrite k ts ws cut) = Unit {0}
-Proper (add r) = (length r ≡ 92) × (held r ≡ true)
+Proper (add r) = (length r ≡ recordSize) × (held r ≡ true)
 Proper (renew t x) = Unit {0}
 Proper (cancel t) = Unit {0}
 Proper (read rs) = Unit {0}
 
-pub after-valid : (p : Parts) (r : Request) (n : ℕ) → Valid p → Proper r → lowest (rows p r n ++ roomRows p r) ≡ 0 → Valid (after p r)
-unfolding after rows roomRows lowest
+pub after-valid : (p : Parts) (r : Request) (n : ℕ) → Valid p → Proper r → firstRow (rows p r n ++ roomRows p r) ≡ 0 → Valid (after p r)
+unfolding after rows admitRows findRows roomRows firstRow
 after-valid p (testWrite k ts ws cut) n v q e =
-    let a = lowest-append (rows p (testWrite k ts ws cut) n) (roomRows p (testWrite k ts ws cut)) (lowest-front (rows p (testWrite k ts ws cut) n) (roomRows p (testWrite k ts ws cut)) (rows-numbered p (testWrite k ts ws cut) n) e) (rows-numbered p (testWrite k ts ws cut) n) in
-    let z = clear 11 _ [] (omega arith) (sym a ∙ e) in
+    let r : Request = testWrite k ts ws cut in
+    let z = clear 11 _ [] (omega arith) (rows-clear (rows p r n) (roomRows p r) (rows-numbered p r n) e .1) in
     bytes-kept p _ v (ltb-false _ _ (z .0))
 after-valid p (add r) n v q e =
     let y = clear 10 _ (roomRows p (add r)) (omega arith) e in

@@ -11,9 +11,10 @@ use lib.Dec.{ltb}
 use borrow.Author.Tests.{ltb-true, ltb-false}
 use Rattle.octets.specs.Numbers.{numberAt, number, digits}
 use Rattle.octets.proofs.NumberLaws.{length-digits}
-use Rattle.format.specs.Container.{ownerOf, expiryOf, held, recordOk, lastHeld}
-use Rattle.format.specs.Parts.{Each}
-use Rattle.rules.specs.Leasing.{vacant, next, firstOf, later, withLast, trim, present}
+use Rattle.format.specs.Layout.{ownerOf, expiryOf, fixedPlaces, recordSize}
+use Rattle.format.specs.Container.{held, recordOk, lastHeld}
+use Rattle.octets.specs.Lists.{Each, maybe}
+use Rattle.rules.specs.Leasing.{vacant, firstOf, later, withLast, trim, present}
 
 -- ---- what holds of each place
 pub each-set : {A : Type 0} (P : A → Type 0) (ls : List A) (i : ℕ) (r : A) → Each P ls → P r → Each P (set ls i r)
@@ -36,8 +37,8 @@ pub none-some : {i : ℕ} → _≡_ {A = Option ℕ} none (some i) → ⊥
 none-some e = let z : _≡_ {A = ℕ} 0 1 = cc in omega arith
 
 found-step : (test : List ℕ → Bool) (r : List ℕ) (ls : List (List ℕ)) (i : ℕ) → ((j : ℕ) → firstOf test ls ≡ some j → Found test ls j) →
-    (t : Bool) → test r ≡ t → (o : Option ℕ) → firstOf test ls ≡ o → cond t (some 0) (next o) ≡ some i → Found test (r ∷ ls) i
-unfolding next
+    (t : Bool) → test r ≡ t → (o : Option ℕ) → firstOf test ls ≡ o → cond t (some 0) (maybe none (λ i. some (suc i)) o) ≡ some i → Found test (r ∷ ls) i
+unfolding maybe
 found-step test r ls i ih true h o k e =
     let z : i ≡ 0 = cc in
     rw z (record { inside = omega arith; passes = h })
@@ -54,26 +55,26 @@ first-found test (r ∷ ls) i e = found-step test r ls i (λ j. first-found test
 
 -- where no place is vacant, every place holds a lease
 pub full-present : (ls : List (List ℕ)) → firstOf vacant ls ≡ none → present ls ≡ length ls
-unfolding firstOf vacant present next
+unfolding firstOf vacant present maybe
 full-present [] e = refl
 full-present (r ∷ ls) e = go (held r) (firstOf vacant ls) refl (full-present ls) e
   where
-    go : (t : Bool) (o : Option ℕ) → firstOf vacant ls ≡ o → (firstOf vacant ls ≡ none → present ls ≡ length ls) → cond (not t) (some 0) (next o) ≡ none →
+    go : (t : Bool) (o : Option ℕ) → firstOf vacant ls ≡ o → (firstOf vacant ls ≡ none → present ls ≡ length ls) → cond (not t) (some 0) (maybe none (λ i. some (suc i)) o) ≡ none →
         cond t 1 0 + present ls ≡ suc (length ls)
     go true none k ih e = let z = ih k in omega arith
     go true (some j) k ih e = absurd (none-some (sym e))
     go false o k ih e = absurd (none-some (sym e))
 
 -- ---- the later expiry
-pub length-later : (x : ℕ) (r : List ℕ) → length r ≡ 92 → length (later x r) ≡ 92
+pub length-later : (x : ℕ) (r : List ℕ) → length r ≡ recordSize → length (later x r) ≡ recordSize
 unfolding later
 length-later x r h = simp (length-append, length-digits, length-take, length-drop) (omega arith)
 
-pub owner-later : (x : ℕ) (r : List ℕ) → length r ≡ 92 → ownerOf (later x r) ≡ ownerOf r
+pub owner-later : (x : ℕ) (r : List ℕ) → length r ≡ recordSize → ownerOf (later x r) ≡ ownerOf r
 unfolding later ownerOf numberAt
 owner-later x r h = ap number (take-at (take 4 r) (digits 4 (max (expiryOf r) x) ++ drop 8 r) 4 (length-take-le 4 r (omega arith)))
 
-pub held-later : (x : ℕ) (r : List ℕ) → length r ≡ 92 → held (later x r) ≡ held r
+pub held-later : (x : ℕ) (r : List ℕ) → length r ≡ recordSize → held (later x r) ≡ held r
 unfolding held
 held-later x r h = rw (owner-later x r h)
 
@@ -91,15 +92,15 @@ last-set (x ∷ (y ∷ ls)) zero r h k = k
 last-set (x ∷ (y ∷ ls)) (suc zero) r h k = last-set (y ∷ ls) zero r h k
 last-set (x ∷ (y ∷ ls)) (suc (suc i)) r h k = last-set (y ∷ ls) (suc i) r h k
 
-pub last-drop-set : (ls : List (List ℕ)) (i : ℕ) (r : List ℕ) → held r ≡ true → lastHeld (drop 4 ls) ≡ true → lastHeld (drop 4 (set ls i r)) ≡ true
+pub last-drop-set : (ls : List (List ℕ)) (i : ℕ) (r : List ℕ) → held r ≡ true → lastHeld (drop fixedPlaces ls) ≡ true → lastHeld (drop fixedPlaces (set ls i r)) ≡ true
 last-drop-set ls i r h k = go (ltb i 4) refl
   where
-    go : (t : Bool) → ltb i 4 ≡ t → lastHeld (drop 4 (set ls i r)) ≡ true
+    go : (t : Bool) → ltb i 4 ≡ t → lastHeld (drop fixedPlaces (set ls i r)) ≡ true
     go true e = rw (drop-set-lt 4 ls i r (ltb-true i 4 e)) k
     go false e =
         let g : 4 ≤ i = ltb-false i 4 e in
         let z : i ≡ 4 + (i - 4) = omega arith in
-        rw (z, drop-set-add 4 ls (i - 4) r) (last-set (drop 4 ls) (i - 4) r h k)
+        rw (z, drop-set-add 4 ls (i - 4) r) (last-set (drop fixedPlaces ls) (i - 4) r h k)
 
 pub last-snoc : (ls : List (List ℕ)) (r : List ℕ) → lastHeld (ls ++ (r ∷ [])) ≡ held r
 unfolding lastHeld

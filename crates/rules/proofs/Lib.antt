@@ -1,8 +1,12 @@
+-- Laws of the rules, and the proofs of what is claimed of them.
 pub mod WriteLaws
+pub mod ChangeLaws
 pub mod LeaseLaws
 pub mod Kept
 pub mod RequestLaws
 pub mod OutcomeLaws
+pub mod NumberLaws
+pub mod ReplyLaws
 pub mod EdgeTable
 pub mod Demand1
 pub mod Demand2

@@ -6,22 +6,24 @@ use mathlib.Core.Option.{Option, none, some}
 use Prim.Native.Nat.{ℕ}
 use lib.Dec.{eqb, ltb}
 use Rattle.format.specs.Container.{lengthAllowed, wellFormed}
-use Rattle.format.specs.Parts.{Parts, Valid, used, partsOf, encode}
-use Rattle.format.proofs.WellFormed.{both}
+use Rattle.format.specs.Parts.{Parts, used, partsOf, encode}
+use Rattle.format.specs.Claims.{Valid}
+use Rattle.octets.proofs.ListLaws.{both}
 use Rattle.format.proofs.RoundTrip.{encode-formed, parts-encode}
 use Rattle.rules.specs.Requests.{Request, testWrite, add, renew, cancel, read, requestOf}
-use Rattle.rules.specs.Outcomes.{after, Row, row, lowest, rows, roomRows, requestRows, outcome, answerTo}
+use Rattle.rules.specs.Outcomes.{after, rows, roomRows, requestRows, outcome, answerTo}
+use Rattle.octets.specs.Rows.{Row, row, firstRow}
 
 pub formed-length : (c : List ℕ) → wellFormed c ≡ true → lengthAllowed c ≡ true
 unfolding wellFormed
 formed-length c w = both _ _ w .0
 
 -- rows 1 and 2 do not apply to a well-formed container
-pub outcome-formed : (c q : List ℕ) (n : ℕ) → wellFormed c ≡ true → outcome c q n ≡ lowest (requestRows (partsOf c) (requestOf q) n)
-unfolding outcome lowest
+pub outcome-formed : (c q : List ℕ) (n : ℕ) → wellFormed c ≡ true → outcome c q n ≡ firstRow (requestRows (partsOf c) (requestOf q) n)
+unfolding outcome firstRow
 outcome-formed c q n w = rw (formed-length c w, w)
 
-pub outcome-encode : (p : Parts) (q : List ℕ) (n : ℕ) → Valid p → outcome (encode p) q n ≡ lowest (requestRows p (requestOf q) n)
+pub outcome-encode : (p : Parts) (q : List ℕ) (n : ℕ) → Valid p → outcome (encode p) q n ≡ firstRow (requestRows p (requestOf q) n)
 outcome-encode p q n v = outcome-formed (encode p) q n (encode-formed p v) ∙ rw (parts-encode p v)
 
 -- the answer record holds the outcome's number
@@ -36,14 +38,14 @@ earlyRows p none n = row 3 true ∷ []
 earlyRows p (some r) n = rows p r n
 
 unfoldable pub early : Parts → Option Request → ℕ → ℕ
-early p r n = lowest (earlyRows p r n)
+early p r n = firstRow (earlyRows p r n)
 
 last-row : (b : Bool) → eqb (cond b 11 0) 11 ≡ false → _≡_ {A = ℕ} (cond b 11 0) 0
 last-row true e = absurd (true≢false e)
 last-row false e = refl
 
-room-alone : (p : Parts) (r : Request) → eqb (lowest (roomRows p r)) 11 ≡ false → lowest (roomRows p r) ≡ 0
-unfolding roomRows lowest
+room-alone : (p : Parts) (r : Request) → eqb (firstRow (roomRows p r)) 11 ≡ false → firstRow (roomRows p r) ≡ 0
+unfolding roomRows firstRow
 room-alone p (testWrite k ts ws cut) e = last-row (ltb (p .room) (used (after p (testWrite k ts ws cut)))) e
 room-alone p (add r) e = last-row (ltb (p .room) (used (after p (add r)))) e
 room-alone p (renew t x) e = refl
@@ -51,17 +53,17 @@ room-alone p (cancel t) e = refl
 room-alone p (read rs) e = refl
 
 -- where the number is not 11, the room row does not matter
-room-last : (a : List Row) (p : Parts) (r : Request) → eqb (lowest (a ++ roomRows p r)) 11 ≡ false → lowest (a ++ roomRows p r) ≡ lowest a
-unfolding lowest
+room-last : (a : List Row) (p : Parts) (r : Request) → eqb (firstRow (a ++ roomRows p r)) 11 ≡ false → firstRow (a ++ roomRows p r) ≡ firstRow a
+unfolding firstRow
 room-last [] p r e = room-alone p r e
 room-last (x ∷ a) p r e = go (x .applies) e (room-last a p r)
   where
-    go : (b : Bool) → eqb (cond b (x .number) (lowest (a ++ roomRows p r))) 11 ≡ false → (eqb (lowest (a ++ roomRows p r)) 11 ≡ false → lowest (a ++ roomRows p r) ≡ lowest a) →
-        cond b (x .number) (lowest (a ++ roomRows p r)) ≡ cond b (x .number) (lowest a)
+    go : (b : Bool) → eqb (cond b (x .number) (firstRow (a ++ roomRows p r))) 11 ≡ false → (eqb (firstRow (a ++ roomRows p r)) 11 ≡ false → firstRow (a ++ roomRows p r) ≡ firstRow a) →
+        cond b (x .number) (firstRow (a ++ roomRows p r)) ≡ cond b (x .number) (firstRow a)
     go true e ih = refl
     go false e ih = ih e
 
-pub outcome-early : (p : Parts) (r : Option Request) (n : ℕ) → eqb (lowest (requestRows p r n)) 11 ≡ false → lowest (requestRows p r n) ≡ early p r n
+pub outcome-early : (p : Parts) (r : Option Request) (n : ℕ) → eqb (firstRow (requestRows p r n)) 11 ≡ false → firstRow (requestRows p r n) ≡ early p r n
 unfolding requestRows early earlyRows
 outcome-early p none n e = refl
 outcome-early p (some r) n e = room-last (rows p r n) p r e

@@ -10,7 +10,9 @@ use lib.Dec.{leb, eqb}
 use borrow.Author.Tests.{leb-true, eqb-true}
 use Rattle.octets.specs.Numbers.{numberAt}
 use Rattle.format.specs.Container.{held}
-use Rattle.rules.specs.Requests.{Request, add, renew, cancel, read, requestLimit, testWriteOk, testWriteOf, addOk, renewOk, cancelOk, readOk, readCount, readsAt, readsFrom, given, kindOf, byKind, requestOf}
+use Rattle.rules.specs.Requests.{Request, add, renew, cancel, read, requestLimit, testWriteOk, testWriteOf}
+use Rattle.rules.specs.Requests.{addOk, renewOk, cancelOk, readOk, readCount, readsAt, readsFrom, kindOf}
+use Rattle.rules.specs.Requests.{byKind, requestOf}
 use Rattle.rules.proofs.Kept.{Proper}
 
 -- The ways to read a request: one for each kind whose format holds, else none.
@@ -23,7 +25,7 @@ pub data Kinds (q : List ℕ) : Type 0 where
   reads : kindOf q ≡ 5 → readOk q ≡ true → requestOf q ≡ some (read (readsFrom (readCount q) readsAt q)) → Kinds q
 
 pub kinds : (q : List ℕ) → Kinds q
-unfolding requestOf byKind given
+unfolding requestOf byKind
 kinds q = short (leb (length q) requestLimit) refl
   where
     five : leb (length q) requestLimit ≡ true → (b : Bool) → readOk q ≡ b → kindOf q ≡ 5 → Kinds q

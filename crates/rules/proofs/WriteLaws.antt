@@ -9,7 +9,9 @@ use lib.ListN.{length, getD, take, drop, replicate, length-append, length-take, 
 use lib.Seq.{getD-take, getD-drop, getD-append-add, ext-getD, take-all}
 use lib.Dec.{ltb}
 use borrow.Author.Tests.{ltb-true, ltb-false, lt-ltb, le-ltb, le-leb, lt-leb}
-use Rattle.rules.specs.Writing.{padTo, writeAt, grow, covers, Placed, writeAll, sizeAll, cutTo, cutSize}
+use Rattle.rules.specs.Writing.{padTo, writeAt, grow, Placed, writeAll, cutTo}
+use Rattle.rules.specs.Changes.{covers}
+use Rattle.rules.specs.Sizes.{sizeAll, cutSize, clip, resize}
 
 pub at-past : (l : List ℕ) (i : ℕ) → length l ≤ i → getD l i 0 ≡ 0
 at-past l i h = List·getD-eq-default l 0 h
@@ -104,13 +106,6 @@ over w i v = cond (covers (w .at) (length (w .bytes)) i) (getD (w .bytes) (i - w
 unfoldable pub overAll : List Placed → ℕ → ℕ → ℕ
 overAll [] i v = v
 overAll (w ∷ ws) i v = overAll ws i (over w i v)
-
--- a write's bytes below F, and old data brought to the length F
-unfoldable pub clip : ℕ → Placed → Placed
-clip F w = record { at = w .at; bytes = take (F - w .at) (w .bytes) }
-
-unfoldable pub resize : ℕ → List ℕ → List ℕ
-resize F d = take F (padTo d F)
 
 -- ---- by length and by position
 pub length-writeAll : (ws : List Placed) (d : List ℕ) → length (writeAll ws d) ≡ sizeAll ws (length d)

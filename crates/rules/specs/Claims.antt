@@ -1,28 +1,69 @@
 -- What is claimed of the rules (demands 1 and 2, and that secrets stay in). Proved in proofs/.
 use Prim.Native.Nat.{ℕ, _≤_}
 use mathlib.Core.Path.{_≡_}
-use mathlib.Core.Bool.{true}
-use mathlib.Core.List.{List, map}
-use mathlib.Core.Option.{Option, some}
-use lib.ListN.{length, drop}
+use mathlib.Core.Bool.{true, cond}
+use mathlib.Core.List.{List, [], _∷_, map}
+use mathlib.Core.Option.{Option, none, some}
+use mathlib.Core.Logic.{_↔_}
+use lib.ListN.{length, take, drop}
+use lib.Dec.{eqb}
 use lib.IntN.{ℤ, pos, negsuc}
-use Rattle.format.specs.Container.{wellFormed, nodeOf, enablerOf, dataOf, leasesOf}
-use Rattle.format.specs.Parts.{Each, used, partsOf}
-use Rattle.rules.specs.Requests.{Test, Write, testWrite, requestOf}
-use Rattle.rules.specs.Testing.{testPiece, holds, replyOf}
+use Rattle.octets.specs.Strings.{same}
+use Rattle.octets.specs.Moves.{put}
+use Rattle.format.specs.Container.{wellFormed}
+use Rattle.format.specs.Layout.{nodeOf, enablerOf, dataOf, leasesOf, secretSize}
+use Rattle.octets.specs.Lists.{Each, Among}
+use Rattle.format.specs.Parts.{used, partsOf}
+use Rattle.rules.specs.Requests.{Test, Read, Write, testWrite, read, requestOf, kindOf, secretAt}
+use Rattle.rules.specs.Testing.{testPiece, readPiece, holds, replyOf}
 use Rattle.rules.specs.Writing.{rewritten}
-use Rattle.rules.specs.Outcomes.{withBytes, answered, containerAfter, replyAfter, createAnswer, createdContainer}
+use Rattle.rules.specs.Leasing.{present}
+use Rattle.rules.specs.Outcomes.{withBytes, noNode, answered, containerAfter, replyAfter, createAnswer}
+use Rattle.rules.specs.Outcomes.{createdContainer}
+
+-- The numbers that the table of outcomes has for a request: 1 to 3 for every request, then those of its kind.
+unfoldable pub numbersFor : ℕ → List ℕ
+numbersFor kind =
+    1 ∷ 2 ∷ 3
+    ∷ cond (eqb kind 1) (0 ∷ 4 ∷ 5 ∷ 7 ∷ 8 ∷ 11 ∷ [])
+    (cond (eqb kind 2) (0 ∷ 10 ∷ 11 ∷ [])
+    (cond (eqb kind 3) (0 ∷ 9 ∷ [])
+    (cond (eqb kind 4) (0 ∷ 9 ∷ [])
+    (cond (eqb kind 5) (0 ∷ 4 ∷ 6 ∷ 7 ∷ [])
+    []))))
+
+-- The call writes the reply bs to the front of the reply space, and counts it.
+pub record Reported (c q r bs : List ℕ) : Type 0 where
+  pub reply : replyAfter c q r ≡ put 0 bs r
+  pub count : answered c q r .count ≡ length bs
 
 -- Demand 1, of any bytes as container, request and reply space.
 pub record Demand1 (c q r : List ℕ) : Type 0 where
-  -- the call ends in a number of the table
-  pub number : answered c q r .number ≤ 11
+  -- the call ends in a number that the table has for the request's kind
+  pub number : Among (answered c q r .number) (numbersFor (kindOf q))
+  -- in 1, 2 or 3 where the request breaks its format
+  pub broken : requestOf q ≡ none → Among (answered c q r .number) (1 ∷ 2 ∷ 3 ∷ [])
   -- refused: no container byte changes
   pub refused : (answered c q r .number ≡ 0 → ⊥) → containerAfter c q r ≡ c
-  -- neither done nor a failed test: no reply byte changes
+  -- neither done nor a failed test: no reply byte changes, and nothing is counted
   pub silent : (answered c q r .number ≡ 0 → ⊥) → (answered c q r .number ≡ 8 → ⊥) → replyAfter c q r ≡ r
+  pub uncounted : (answered c q r .number ≡ 0 → ⊥) → (answered c q r .number ≡ 8 → ⊥) → answered c q r .count ≡ 0
   -- otherwise only the first bytes of the reply space, as many as the count says
   pub front : drop (answered c q r .count) (replyAfter c q r) ≡ drop (answered c q r .count) r
+  -- a test-and-write that is done or fails a test replies with the pieces of the data as it was before any write
+  pub tests-reply : (k : List ℕ) (ts : List Test) (ws : List Write) (cut : Option ℕ) →
+      requestOf q ≡ some (testWrite k ts ws cut) → Among (answered c q r .number) (0 ∷ 8 ∷ []) →
+      Reported c q r (replyOf (map (testPiece (dataOf c)) ts))
+  -- a read that is done replies with its pieces of the data
+  pub reads-reply : (rs : List Read) → requestOf q ≡ some (read rs) → answered c q r .number ≡ 0 →
+      Reported c q r (replyOf (map (readPiece (dataOf c)) rs))
+  -- a lease request changes no reply byte, and when done counts the leases present after it
+  pub leases-silent : Among (kindOf q) (2 ∷ 3 ∷ 4 ∷ []) → replyAfter c q r ≡ r
+  pub leases-count : Among (kindOf q) (2 ∷ 3 ∷ 4 ∷ []) → answered c q r .number ≡ 0 →
+      answered c q r .count ≡ present (leasesOf (containerAfter c q r))
+  -- the node id is the container's on 5, else zeros
+  pub node : answered c q r .number ≡ 5 → answered c q r .node ≡ nodeOf c
+  pub no-node : (answered c q r .number ≡ 5 → ⊥) → answered c q r .node ≡ noNode
   -- lengths never change
   pub container-length : length (containerAfter c q r) ≡ length c
   pub reply-length : length (replyAfter c q r) ≡ length r
@@ -31,9 +72,16 @@ pub record Demand1 (c q r : List ℕ) : Type 0 where
 
 -- Demand 1 of create, on any buffer and with any arguments.
 pub record Demand1Create (c node enabler : List ℕ) : Type 0 where
-  pub number : createAnswer c node enabler .number ≤ 12
+  -- the call ends in a number that the table has for create
+  pub number : Among (createAnswer c node enabler .number) (0 ∷ 1 ∷ 3 ∷ 12 ∷ [])
+  -- the node id is zeros, and nothing is counted
+  pub no-node : createAnswer c node enabler .node ≡ noNode
+  pub uncounted : createAnswer c node enabler .count ≡ 0
+  -- refused: no container byte changes
   pub refused : (createAnswer c node enabler .number ≡ 0 → ⊥) → createdContainer c node enabler ≡ c
+  -- the length never changes
   pub container-length : length (createdContainer c node enabler) ≡ length c
+  -- what is made is well formed
   pub made-formed : createAnswer c node enabler .number ≡ 0 → wellFormed (createdContainer c node enabler) ≡ true
 
 -- An offset that is not negative.
@@ -62,10 +110,21 @@ pub record Accepts (c q : List ℕ) (n : ℕ) : Type 0 where
   -- the result fits
   pub result-fits : used (withBytes (partsOf c) (rewritten writes cut (dataOf c))) ≤ length c
 
--- What is then done: the named writes in order, zeros in gaps, the cut; every lease, and all else, is kept.
+-- What is then done.
 pub record Writes (c q r : List ℕ) (a : Accepts c q (length r)) : Type 0 where
+  -- the named writes in order, zeros in gaps, and the cut; all else is kept
   pub parts : partsOf (containerAfter c q r) ≡ withBytes (partsOf c) (rewritten (a .writes) (a .cut) (dataOf c))
+  -- every lease is kept
   pub leases : leasesOf (containerAfter c q r) ≡ leasesOf c
+  -- the reply holds the pieces of the data as it was before any write
+  pub reported : Reported c q r (replyOf (map (testPiece (dataOf c)) (a .tests)))
+
+-- Demand 2, of any bytes as container, request of kind 1 and reply space.
+pub record Demand2 (c q r : List ℕ) : Type 0 where
+  -- a test-and-write is done exactly when the conditions hold
+  pub exactly : kindOf q ≡ 1 → (answered c q r .number ≡ 0) ↔ Accepts c q (length r)
+  -- and then does what they name
+  pub writes : (a : Accepts c q (length r)) → Writes c q r a
 
 -- Two well-formed containers that differ at most in write enabler and leases.
 pub record SamePublic (b c : List ℕ) : Type 0 where
@@ -78,3 +137,12 @@ pub record SamePublic (b c : List ℕ) : Type 0 where
 pub record SameReply (b c q r : List ℕ) : Type 0 where
   pub answer : answered b q r ≡ answered c q r
   pub reply : replyAfter b q r ≡ replyAfter c q r
+
+-- Secrets stay in: neither answer nor reply tells the write enabler or the leases.
+pub record Secrets (b c q r : List ℕ) : Type 0 where
+  -- a read gets the same answer and reply bytes in both containers
+  pub of-read : SamePublic b c → kindOf q ≡ 5 → SameReply b c q r
+  -- so does a test-and-write whose enabler fits both or neither and that meets 'no room' in neither
+  pub of-write : SamePublic b c → kindOf q ≡ 1 →
+      same (take secretSize (drop secretAt q)) (enablerOf b) ≡ same (take secretSize (drop secretAt q)) (enablerOf c) →
+      (answered b q r .number ≡ 11 → ⊥) → (answered c q r .number ≡ 11 → ⊥) → SameReply b c q r

@@ -1,44 +1,59 @@
 -- Numbers at the edges (document 01, P1 to P10), as one table: what create and then a few requests give.
 use Prim.Native.Nat.{ℕ}
+use mathlib.Core.Path.{_≡_}
 use mathlib.Core.Bool.{cond}
 use mathlib.Core.List.{List, [], _∷_, _++_, map}
 use lib.ListN.{length, replicate}
 use lib.Dec.{eqb}
 use Rattle.octets.specs.Numbers.{digits}
 use Rattle.octets.specs.Strings.{join}
-use Rattle.format.specs.Container.{usedLength, sizeOf, extrasOf, dataOf}
-use Rattle.rules.specs.Outcomes.{outcome, containerAfter, createOutcome, createdContainer}
+use Rattle.format.specs.Layout.{usedLength, sizeOf, extrasOf, dataOf}
+use Rattle.format.specs.Parts.{encode, fresh}
+use Rattle.rules.specs.Outcomes.{outcome, answerOf, noNode, answered, containerAfter, replyAfter, createOutcome}
+use Rattle.rules.specs.Outcomes.{createdContainer}
 
--- The enabler and node id of every case, and a reply space that is long enough.
+-- The enabler of every case, EE 32 times.
 abbrev pub enabler : List ℕ
 enabler = replicate 32 238
 
+-- The node id of every case.
 abbrev pub node : List ℕ
 node = replicate 20 7
 
+-- A reply space that is long enough.
 abbrev pub space : List ℕ
 space = replicate 8 0
 
--- A write and its bytes; a test (at, length, opcode, specimen); requests as bytes.
+-- A write: where, and its bytes.
 pub record Put : Type 0 where
   pub at : ℕ
   pub bytes : List ℕ
 
+-- A test: where, length, opcode, specimen.
 pub record Check : Type 0 where
   pub at : ℕ
   pub count : ℕ
   pub opcode : ℕ
   pub specimen : List ℕ
 
+-- A test's entry of 12 and a write's entry of 8.
+abbrev pub testEntry : Check → List ℕ
+testEntry t = digits 4 (t .at) ++ (digits 4 (t .count) ++ (t .opcode ∷ 0 ∷ digits 2 (length (t .specimen))))
+
+abbrev pub writeEntry : Put → List ℕ
+writeEntry w = digits 4 (w .at) ++ digits 4 (length (w .bytes))
+
+-- A test-and-write as bytes: its tests, its writes, the cut flag and the new length.
 abbrev pub testAndWrite : List Check → List Put → ℕ → ℕ → List ℕ
 testAndWrite ts ws flag new =
     (1 ∷ length ts ∷ length ws ∷ flag ∷ [])
     ++ (digits 4 new
     ++ (enabler
-    ++ (join (map (λ t. digits 4 (t .at) ++ (digits 4 (t .count) ++ (t .opcode ∷ 0 ∷ digits 2 (length (t .specimen))))) ts)
-    ++ (join (map (λ w. digits 4 (w .at) ++ digits 4 (length (w .bytes))) ws)
+    ++ (join (map testEntry ts)
+    ++ (join (map writeEntry ws)
     ++ (join (map (λ t. t .specimen) ts) ++ join (map (λ w. w .bytes) ws))))))
 
+-- Short names: a write, a test, and a request that only writes.
 abbrev pub put : ℕ → List ℕ → Put
 put at bs = record { at = at; bytes = bs }
 
@@ -48,7 +63,7 @@ check at n op s = record { at = at; count = n; opcode = op; specimen = s }
 abbrev pub write : List Put → List ℕ
 write ws = testAndWrite [] ws 0 0
 
--- A lease of owner k, with tokens of 32 bytes k.
+-- An add as bytes: a lease of owner k, expiry 7, with tokens of 32 bytes k.
 abbrev pub addLease : ℕ → List ℕ
 addLease k = 2 ∷ (digits 4 k ++ (digits 4 7 ++ (replicate 64 k ++ replicate 20 0)))
 
@@ -57,9 +72,11 @@ pub record Case : Type 0 where
   pub buffer : List ℕ
   pub requests : List (List ℕ)
 
+-- Requests in a buffer of n zeros.
 abbrev pub given : ℕ → List (List ℕ) → Case
 given n qs = record { buffer = replicate n 0; requests = qs }
 
+-- The numbers of the requests, each on the container that the one before left, and the container in the end.
 unfoldable pub numbers : List (List ℕ) → List ℕ → List ℕ
 numbers [] c = []
 numbers (q ∷ qs) c = outcome c q (length space) ∷ numbers qs (containerAfter c q space)
@@ -68,28 +85,34 @@ unfoldable pub finally : List (List ℕ) → List ℕ → List ℕ
 finally [] c = c
 finally (q ∷ qs) c = finally qs (containerAfter c q space)
 
--- What it gives: create's number, the requests' numbers, the data and the used length in the end (none where create refused).
+-- What a case gives: create's number, the requests' numbers, the data and the used length in the end; none where
+-- create refused.
 pub record Outcome : Type 0 where
   pub created : ℕ
   pub answers : List ℕ
   pub bytes : List ℕ
   pub used : ℕ
 
+-- The used length, from the fields.
 unfoldable pub usedIn : List ℕ → ℕ
 usedIn c = usedLength (sizeOf c) (extrasOf c)
 
+-- A case carried out.
 unfoldable pub result : Case → Outcome
 result x =
     let n : ℕ = createOutcome (x .buffer) node enabler in
     let c : List ℕ = createdContainer (x .buffer) node enabler in
+    let e : List ℕ = finally (x .requests) c in
     cond (eqb n 0)
-    (record { created = n; answers = numbers (x .requests) c; bytes = dataOf (finally (x .requests) c); used = usedIn (finally (x .requests) c) })
+    (record { created = n; answers = numbers (x .requests) c; bytes = dataOf e; used = usedIn e })
     (record { created = n; answers = []; bytes = []; used = 0 })
 
+-- A row of results: create's number, the answers, the data, the used length.
 abbrev pub gives : ℕ → List ℕ → List ℕ → ℕ → Outcome
 gives n ns d u = record { created = n; answers = ns; bytes = d; used = u }
 
--- The table: P1 to P10 in order. `long` stands for any buffer of 65,537 bytes.
+-- The table: P1 (three cases), P2 (three), P3, P4, P5 (two), P6 (two), P7 (two), P8 (two), P9, P10. `long` stands for
+-- any buffer of 65,537 bytes.
 abbrev pub cases : List ℕ → List Case
 cases long =
     given 472 []
@@ -107,11 +130,12 @@ cases long =
     ∷ given 563 (addLease 1 ∷ addLease 2 ∷ addLease 3 ∷ addLease 4 ∷ addLease 5 ∷ [])
     ∷ given 564 (addLease 1 ∷ addLease 2 ∷ addLease 3 ∷ addLease 4 ∷ addLease 5 ∷ [])
     ∷ given 500 (write (put 0 (65 ∷ []) ∷ []) ∷ testAndWrite (check 0 1 1 (65 ∷ 66 ∷ []) ∷ []) [] 0 0 ∷ [])
-    ∷ given 500 (testAndWrite (check 0 0 3 [] ∷ []) [] 0 0 ∷ [])
+    ∷ given 500 (testAndWrite (check 0 4 3 [] ∷ []) [] 0 0 ∷ [])
     ∷ given 472 (testAndWrite (check 0 1 3 (9 ∷ []) ∷ []) (put 0 (1 ∷ []) ∷ []) 0 0 ∷ [])
     ∷ given 500 ((4 ∷ replicate 32 0) ∷ [])
     ∷ []
 
+-- What document 01 says of each case, in the same order.
 abbrev pub results : List Outcome
 results =
     gives 0 [] [] 472
@@ -133,3 +157,31 @@ results =
     ∷ gives 0 (8 ∷ []) [] 472
     ∷ gives 0 (9 ∷ []) [] 472
     ∷ []
+
+-- The whole request of 62 bytes, enabler EE 32 times.
+abbrev pub request62 : List ℕ
+request62 =
+    (1 ∷ 1 ∷ 1 ∷ 0 ∷ 0 ∷ 0 ∷ 0 ∷ 0 ∷ [])
+    ++ (enabler
+    ++ ((0 ∷ 0 ∷ 0 ∷ 0 ∷ 0 ∷ 0 ∷ 0 ∷ 1 ∷ 3 ∷ 0 ∷ 0 ∷ 0 ∷ [])
+    ++ (0 ∷ 0 ∷ 0 ∷ 3 ∷ 0 ∷ 0 ∷ 0 ∷ 2 ∷ 65 ∷ 66 ∷ [])))
+
+-- A fresh container of 500 bytes.
+abbrev pub empty : List ℕ
+empty = encode (fresh 500 node enabler)
+
+-- A reply space of six bytes 9.
+abbrev pub nines : List ℕ
+nines = replicate 6 9
+
+-- The claim of the table.
+pub record EdgesHold : Type 0 where
+  -- every case gives its result
+  pub table : (long : List ℕ) → length long ≡ 65537 → map result (cases long) ≡ results
+  -- the whole request on empty data is done, with four bytes of reply
+  pub whole-size : length request62 ≡ 62
+  pub whole-answer : answered empty request62 nines ≡ answerOf 0 noNode 4
+  -- the reply is 00 00 00 00, and the bytes after it stay
+  pub whole-reply : replyAfter empty request62 nines ≡ 0 ∷ 0 ∷ 0 ∷ 0 ∷ 9 ∷ 9 ∷ []
+  -- its write is made
+  pub whole-data : dataOf (containerAfter empty request62 nines) ≡ 0 ∷ 0 ∷ 0 ∷ 65 ∷ 66 ∷ []

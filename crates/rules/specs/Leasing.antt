@@ -6,9 +6,10 @@ use mathlib.Core.Option.{Option, none, some}
 use lib.ListN.{take, drop, getD, set}
 use Rattle.octets.specs.Numbers.{digits}
 use Rattle.octets.specs.Strings.{same}
-use Rattle.format.specs.Container.{held, expiryOf, renewalOf, cancelOf}
+use Rattle.format.specs.Container.{held}
+use Rattle.format.specs.Layout.{expiryOf, renewalOf, cancelOf, expiryAt, fixedPlaces, renewalAt}
 use Rattle.format.specs.Parts.{noLease}
-use Rattle.rules.specs.Testing.{isSome}
+use Rattle.octets.specs.Lists.{isSome, maybe}
 
 -- A record with owner 0 matches no token.
 unfoldable pub renewedBy : List ℕ → List ℕ → Bool
@@ -21,25 +22,20 @@ unfoldable pub vacant : List ℕ → Bool
 vacant r = not (held r)
 
 -- The first place that passes a test, counted from 0.
-unfoldable pub next : Option ℕ → Option ℕ
-next none = none
-next (some i) = some (suc i)
-
 unfoldable pub firstOf : (List ℕ → Bool) → List (List ℕ) → Option ℕ
 firstOf test [] = none
-firstOf test (r ∷ rs) = cond (test r) (some 0) (next (firstOf test rs))
+firstOf test (r ∷ rs) = cond (test r) (some 0) (maybe none (λ i. some (suc i)) (firstOf test rs))
 
 -- The lease keeps the later of the two expiries, and nothing else changes.
 unfoldable pub later : ℕ → List ℕ → List ℕ
-later x r = take 4 r ++ (digits 4 (max (expiryOf r) x) ++ drop 8 r)
+later x r = take expiryAt r ++ (digits 4 (max (expiryOf r) x) ++ drop renewalAt r)
 
 unfoldable pub extended : ℕ → List (List ℕ) → ℕ → List (List ℕ)
 extended x ls i = set ls i (later x (getD ls i []))
 
 -- A record goes to the first empty place, else to a new extra.
-unfoldable pub placedAt : List ℕ → List (List ℕ) → Option ℕ → List (List ℕ)
-placedAt r ls none = ls ++ (r ∷ [])
-placedAt r ls (some i) = set ls i r
+unfoldable pub placedIn : List ℕ → List (List ℕ) → List (List ℕ)
+placedIn r ls = maybe (ls ++ (r ∷ [])) (λ i. set ls i r) (firstOf vacant ls)
 
 -- Empty extras at the tail are dropped.
 unfoldable pub withLast : List ℕ → List (List ℕ) → List (List ℕ)
@@ -51,31 +47,19 @@ trim [] = []
 trim (r ∷ rs) = withLast r (trim rs)
 
 unfoldable pub dropTail : List (List ℕ) → List (List ℕ)
-dropTail ls = take 4 ls ++ trim (drop 4 ls)
+dropTail ls = take fixedPlaces ls ++ trim (drop fixedPlaces ls)
 
 -- Add: a known renewal token keeps the later expiry; otherwise the record is placed.
-unfoldable pub addedAt : List ℕ → List (List ℕ) → Option ℕ → List (List ℕ)
-addedAt r ls none = placedAt r ls (firstOf vacant ls)
-addedAt r ls (some i) = extended (expiryOf r) ls i
-
 unfoldable pub added : List ℕ → List (List ℕ) → List (List ℕ)
-added r ls = addedAt r ls (firstOf (renewedBy (renewalOf r)) ls)
+added r ls = maybe (placedIn r ls) (extended (expiryOf r) ls) (firstOf (renewedBy (renewalOf r)) ls)
 
 -- Renew: the first lease with that token keeps the later expiry.
-unfoldable pub renewedAt : ℕ → List (List ℕ) → Option ℕ → List (List ℕ)
-renewedAt x ls none = ls
-renewedAt x ls (some i) = extended x ls i
-
 unfoldable pub renewed : List ℕ → ℕ → List (List ℕ) → List (List ℕ)
-renewed token x ls = renewedAt x ls (firstOf (renewedBy token) ls)
+renewed token x ls = maybe ls (extended x ls) (firstOf (renewedBy token) ls)
 
--- Cancel: the first lease with that cancel token becomes 92 zero bytes; the empty tail is dropped.
-unfoldable pub cancelledAt : List (List ℕ) → Option ℕ → List (List ℕ)
-cancelledAt ls none = ls
-cancelledAt ls (some i) = dropTail (set ls i noLease)
-
+-- Cancel: the first lease with that cancel token becomes zero bytes; the empty tail is dropped.
 unfoldable pub cancelled : List ℕ → List (List ℕ) → List (List ℕ)
-cancelled token ls = cancelledAt ls (firstOf (cancelledBy token) ls)
+cancelled token ls = maybe ls (λ i. dropTail (set ls i noLease)) (firstOf (cancelledBy token) ls)
 
 -- Whether some lease has the token, and how many leases there are.
 unfoldable pub knows : (List ℕ → Bool) → List (List ℕ) → Bool

@@ -1,8 +1,10 @@
--- The rules of document 01, in its order.
+-- The rules: what a request's bytes ask, and what becomes of container and reply space.
 pub mod Requests
 pub mod Testing
 pub mod Writing
+pub mod Sizes
+pub mod Changes
 pub mod Leasing
 pub mod Outcomes
-pub mod Edges
 pub mod Claims
+pub mod Edges

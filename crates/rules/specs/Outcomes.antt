@@ -7,12 +7,15 @@ use lib.ListN.{length, take, replicate}
 use lib.Dec.{eqb, leb, ltb}
 use Rattle.octets.specs.Strings.{same}
 use Rattle.octets.specs.Moves.{put}
-use Rattle.format.specs.Container.{magic, lengthAllowed, wellFormed, renewalOf}
+use Rattle.format.specs.Layout.{magic, renewalOf, nodeSize, leaseLimit, secretSize, nodeAt}
+use Rattle.format.specs.Container.{lengthAllowed, containerRows}
 use Rattle.format.specs.Parts.{Parts, used, partsOf, encode, fresh}
 use Rattle.rules.specs.Requests.{Request, testWrite, add, renew, cancel, read, requestOf}
-use Rattle.rules.specs.Testing.{resolves, testPiece, readPiece, exceeds, holds, every, anyOf, replyOf}
+use Rattle.rules.specs.Testing.{resolves, testPiece, readPiece, exceeds, holds, replyOf}
+use Rattle.octets.specs.Lists.{every, anyOf, maybe}
 use Rattle.rules.specs.Writing.{writesResolve, rewritten}
 use Rattle.rules.specs.Leasing.{renewedBy, cancelledBy, added, renewed, cancelled, knows, present}
+use Rattle.octets.specs.Rows.{Row, firstRow, row}
 use Rattle.rules.specs.declared.Answer.{Answer}
 
 -- What a request, if it is done, makes of the parts.
@@ -20,7 +23,8 @@ unfoldable pub withBytes : Parts → List ℕ → Parts
 withBytes p d = record { room = p .room; node = p .node; enabler = p .enabler; bytes = d; leases = p .leases }
 
 unfoldable pub withLeases : Parts → List (List ℕ) → Parts
-withLeases p ls = record { room = p .room; node = p .node; enabler = p .enabler; bytes = p .bytes; leases = ls }
+withLeases p ls =
+    record { room = p .room; node = p .node; enabler = p .enabler; bytes = p .bytes; leases = ls }
 
 unfoldable pub after : Parts → Request → Parts
 after p (testWrite k ts ws cut) = withBytes p (rewritten ws cut (p .bytes))
@@ -37,42 +41,27 @@ replyTo p (renew t x) = []
 replyTo p (cancel t) = []
 replyTo p (read rs) = replyOf (map (readPiece (p .bytes)) rs)
 
--- A row of the table: the number, and whether it applies. The lowest number that applies is given; rows stand in rising order.
-pub record Row : Type 0 where
-  pub number : ℕ
-  pub applies : Bool
+-- Rows 4 and 5, for each kind those that it can meet: some offset is negative, the write enabler differs.
+unfoldable pub admitRows : Parts → Request → List Row
+admitRows p (testWrite k ts ws cut) =
+    row 4 (not (every (λ t. resolves (t .offset) (length (p .bytes))) ts && writesResolve ws (length (p .bytes))))
+    ∷ row 5 (not (same k (p .enabler)))
+    ∷ []
+admitRows p (add r) = []
+admitRows p (renew t x) = []
+admitRows p (cancel t) = []
+admitRows p (read rs) = row 4 (not (every (λ r. resolves (r .offset) (length (p .bytes))) rs)) ∷ []
 
-abbrev pub row : ℕ → Bool → Row
-row n b = record { number = n; applies = b }
-
-unfoldable pub lowest : List Row → ℕ
-lowest [] = 0
-lowest (r ∷ rs) = cond (r .applies) (r .number) (lowest rs)
-
--- Row 4: some offset is negative.
-unfoldable pub resolved : Parts → Request → Bool
-resolved p (testWrite k ts ws cut) = every (λ t. resolves (t .offset) (length (p .bytes))) ts && writesResolve ws (length (p .bytes))
-resolved p (add r) = true
-resolved p (renew t x) = true
-resolved p (cancel t) = true
-resolved p (read rs) = every (λ r. resolves (r .offset) (length (p .bytes))) rs
-
--- Rows 4 to 10, for each kind those that it can meet, beside a reply space of n bytes.
-unfoldable pub rows : Parts → Request → ℕ → List Row
-rows p (testWrite k ts ws cut) n =
-    row 4 (not (resolved p (testWrite k ts ws cut)))
-    ∷ (row 5 (not (same k (p .enabler)))
-    ∷ (row 7 (ltb n (length (replyTo p (testWrite k ts ws cut))))
-    ∷ (row 8 (not (every (holds (p .bytes)) ts))
-    ∷ [])))
-rows p (add r) n = row 10 (leb 64 (present (p .leases)) && not (knows (renewedBy (renewalOf r)) (p .leases))) ∷ []
-rows p (renew t x) n = row 9 (not (knows (renewedBy t) (p .leases))) ∷ []
-rows p (cancel t) n = row 9 (not (knows (cancelledBy t) (p .leases))) ∷ []
-rows p (read rs) n =
-    row 4 (not (resolved p (read rs)))
-    ∷ (row 6 (anyOf (exceeds (p .bytes)) rs)
-    ∷ (row 7 (ltb n (length (replyTo p (read rs))))
-    ∷ []))
+-- Rows 6 to 10: what it finds in the data, in a reply space of n bytes and among the leases.
+unfoldable pub findRows : Parts → Request → ℕ → List Row
+findRows p (testWrite k ts ws cut) n =
+    row 7 (ltb n (length (replyTo p (testWrite k ts ws cut)))) ∷ row 8 (not (every (holds (p .bytes)) ts)) ∷ []
+findRows p (add r) n =
+    row 10 (leb leaseLimit (present (p .leases)) && not (knows (renewedBy (renewalOf r)) (p .leases))) ∷ []
+findRows p (renew t x) n = row 9 (not (knows (renewedBy t) (p .leases))) ∷ []
+findRows p (cancel t) n = row 9 (not (knows (cancelledBy t) (p .leases))) ∷ []
+findRows p (read rs) n =
+    row 6 (anyOf (exceeds (p .bytes)) rs) ∷ row 7 (ltb n (length (replyTo p (read rs)))) ∷ []
 
 -- Row 11: the used length after the request would exceed the buffer.
 unfoldable pub roomRows : Parts → Request → List Row
@@ -82,14 +71,17 @@ roomRows p (renew t x) = []
 roomRows p (cancel t) = []
 roomRows p (read rs) = []
 
+-- The rows of a request, if any, in the order in which they are judged: 3, or 4 to 10 and then 11.
+unfoldable pub rows : Parts → Request → ℕ → List Row
+rows p r n = admitRows p r ++ findRows p r n
+
 unfoldable pub requestRows : Parts → Option Request → ℕ → List Row
 requestRows p none n = row 3 true ∷ []
 requestRows p (some r) n = rows p r n ++ roomRows p r
 
 -- The outcome's number for a container, a request and a reply space of n bytes.
 unfoldable pub outcome : List ℕ → List ℕ → ℕ → ℕ
-outcome c q n =
-    lowest (row 1 (not (lengthAllowed c)) ∷ (row 2 (not (wellFormed c)) ∷ requestRows (partsOf c) (requestOf q) n))
+outcome c q n = firstRow (containerRows c ++ requestRows (partsOf c) (requestOf q) n)
 
 -- The reply is written on 0 and 8 only.
 unfoldable pub replies : ℕ → Bool
@@ -107,7 +99,7 @@ abbrev pub answerOf : ℕ → List ℕ → ℕ → Answer
 answerOf n node count = record { number = n; node = node; count = count }
 
 abbrev pub noNode : List ℕ
-noNode = replicate 20 0
+noNode = replicate nodeSize 0
 
 -- The answer to a request with outcome n: the container's node id on 5, the count where a reply is written.
 unfoldable pub answerTo : ℕ → Parts → Option Request → Answer
@@ -115,44 +107,35 @@ answerTo n p none = answerOf n noNode 0
 answerTo n p (some r) = answerOf n (cond (eqb n 5) (p .node) noNode) (cond (replies n) (counted p r) 0)
 
 unfoldable pub afterOf : Parts → Option Request → Parts
-afterOf p none = p
-afterOf p (some r) = after p r
+afterOf p r = maybe p (after p) r
 
 unfoldable pub replyBytes : Parts → Option Request → List ℕ
-replyBytes p none = []
-replyBytes p (some r) = replyTo p r
-
--- A call's result: the answer, the whole container and the whole reply space afterwards.
-pub record Result : Type 0 where
-  pub answer : Answer
-  pub container : List ℕ
-  pub reply : List ℕ
+replyBytes p r = maybe [] (replyTo p) r
 
 unfoldable pub answered : List ℕ → List ℕ → List ℕ → Answer
 answered c q r = answerTo (outcome c q (length r)) (partsOf c) (requestOf q)
 
 -- The container changes on 0 only.
 unfoldable pub containerAfter : List ℕ → List ℕ → List ℕ → List ℕ
-containerAfter c q r = cond (eqb (outcome c q (length r)) 0) (encode (afterOf (partsOf c) (requestOf q))) c
+containerAfter c q r =
+    cond (eqb (outcome c q (length r)) 0) (encode (afterOf (partsOf c) (requestOf q))) c
 
 unfoldable pub replyAfter : List ℕ → List ℕ → List ℕ → List ℕ
-replyAfter c q r = cond (replies (outcome c q (length r))) (put 0 (replyBytes (partsOf c) (requestOf q)) r) r
-
--- Container bytes, request bytes and reply space to the result, for any bytes whatever.
-unfoldable pub applied : List ℕ → List ℕ → List ℕ → Result
-applied c q r = record { answer = answered c q r; container = containerAfter c q r; reply = replyAfter c q r }
+replyAfter c q r =
+    cond (replies (outcome c q (length r))) (put 0 (replyBytes (partsOf c) (requestOf q)) r) r
 
 -- Create: rows 1, 3 and 12; a fresh container on 0.
 unfoldable pub createOutcome : List ℕ → List ℕ → List ℕ → ℕ
 createOutcome c node enabler =
-    lowest
+    firstRow
     (row 1 (not (lengthAllowed c))
-    ∷ (row 3 (not (eqb (length node) 20 && eqb (length enabler) 32))
-    ∷ (row 12 (same (take 32 c) magic)
-    ∷ [])))
+    ∷ row 3 (not (eqb (length node) nodeSize && eqb (length enabler) secretSize))
+    ∷ row 12 (same (take nodeAt c) magic)
+    ∷ [])
 
 unfoldable pub createAnswer : List ℕ → List ℕ → List ℕ → Answer
 createAnswer c node enabler = answerOf (createOutcome c node enabler) noNode 0
 
 unfoldable pub createdContainer : List ℕ → List ℕ → List ℕ → List ℕ
-createdContainer c node enabler = cond (eqb (createOutcome c node enabler) 0) (encode (fresh (length c) node enabler)) c
+createdContainer c node enabler =
+    cond (eqb (createOutcome c node enabler) 0) (encode (fresh (length c) node enabler)) c

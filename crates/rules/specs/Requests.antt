@@ -9,6 +9,7 @@ use lib.Dec.{eqb, leb}
 use lib.IntN.{ℤ}
 use Rattle.octets.specs.Numbers.{numberAt, signed}
 use Rattle.format.specs.Container.{held}
+use Rattle.format.specs.Layout.{recordSize, secretSize}
 
 -- A test: offset, length, opcode, specimen. A read: offset, length. A write: offset, new bytes.
 pub record Test : Type 0 where
@@ -40,6 +41,16 @@ requestLimit = 65536
 abbrev pub entryLimit : ℕ
 entryLimit = 16
 
+-- An entry is offset 4, length 4; a test's entry goes on with opcode 1, a zero byte, specimen length 2.
+abbrev pub entrySize : ℕ
+entrySize = 8
+
+abbrev pub paddingAt : ℕ
+paddingAt = entrySize + 1
+
+abbrev pub testSize : ℕ
+testSize = paddingAt + 3
+
 -- The entry at p of a table: its offset is signed, its length unsigned.
 unfoldable pub entryOffset : ℕ → List ℕ → ℤ
 entryOffset p q = signed (numberAt 4 p q)
@@ -47,15 +58,14 @@ entryOffset p q = signed (numberAt 4 p q)
 unfoldable pub entryCount : ℕ → List ℕ → ℕ
 entryCount p q = numberAt 4 (p + 4) q
 
--- A test's entry of 12 goes on: opcode 1, a zero byte, specimen length 2.
 unfoldable pub entryOpcode : ℕ → List ℕ → ℕ
-entryOpcode p q = getD q (p + 8) 0
+entryOpcode p q = getD q (p + entrySize) 0
 
 unfoldable pub entrySpecimen : ℕ → List ℕ → ℕ
-entrySpecimen p q = numberAt 2 (p + 10) q
+entrySpecimen p q = numberAt 2 (p + (paddingAt + 1)) q
 
 unfoldable pub testEntryOk : List ℕ → ℕ → Bool
-testEntryOk q p = leb 1 (entryOpcode p q) && (leb (entryOpcode p q) 6 && eqb (getD q (p + 9) 0) 0)
+testEntryOk q p = leb 1 (entryOpcode p q) && (leb (entryOpcode p q) 6 && eqb (getD q (p + paddingAt) 0) 0)
 
 -- Over n entries of a table, each `stride` bytes after the one before: do all pass; the sum of what they give.
 unfoldable pub allFrom : (ℕ → Bool) → ℕ → ℕ → ℕ → Bool
@@ -70,18 +80,23 @@ sumFrom f stride (suc n) p = f p + sumFrom f stride n (p + stride)
 unfoldable pub testsFrom : ℕ → ℕ → ℕ → List ℕ → List Test
 testsFrom zero p b q = []
 testsFrom (suc n) p b q =
-    record { offset = entryOffset p q; count = entryCount p q; opcode = entryOpcode p q; specimen = take (entrySpecimen p q) (drop b q) }
-    ∷ testsFrom n (p + 12) (b + entrySpecimen p q) q
+    record {
+      offset = entryOffset p q;
+      count = entryCount p q;
+      opcode = entryOpcode p q;
+      specimen = take (entrySpecimen p q) (drop b q);
+    }
+    ∷ testsFrom n (p + testSize) (b + entrySpecimen p q) q
 
 unfoldable pub writesFrom : ℕ → ℕ → ℕ → List ℕ → List Write
 writesFrom zero p b q = []
 writesFrom (suc n) p b q =
     record { offset = entryOffset p q; bytes = take (entryCount p q) (drop b q) }
-    ∷ writesFrom n (p + 8) (b + entryCount p q) q
+    ∷ writesFrom n (p + entrySize) (b + entryCount p q) q
 
 unfoldable pub readsFrom : ℕ → ℕ → List ℕ → List Read
 readsFrom zero p q = []
-readsFrom (suc n) p q = record { offset = entryOffset p q; count = entryCount p q } ∷ readsFrom n (p + 8) q
+readsFrom (suc n) p q = record { offset = entryOffset p q; count = entryCount p q } ∷ readsFrom n (p + entrySize) q
 
 -- Kind 1: 01, T, V, cut flag, new length 4, write enabler 32; T entries of 12; V entries of 8; specimens; new data.
 unfoldable pub testCount : List ℕ → ℕ
@@ -96,21 +111,24 @@ cutFlag q = getD q 3 0
 unfoldable pub newLength : List ℕ → ℕ
 newLength q = numberAt 4 4 q
 
+abbrev pub secretAt : ℕ
+secretAt = 8
+
 abbrev pub testsAt : ℕ
-testsAt = 40
+testsAt = secretAt + secretSize
 
 unfoldable pub writesAt : List ℕ → ℕ
-writesAt q = testsAt + 12 * testCount q
+writesAt q = testsAt + testSize * testCount q
 
 unfoldable pub specimensAt : List ℕ → ℕ
-specimensAt q = writesAt q + 8 * writeCount q
+specimensAt q = writesAt q + entrySize * writeCount q
 
 unfoldable pub newDataAt : List ℕ → ℕ
-newDataAt q = specimensAt q + sumFrom (λ p. entrySpecimen p q) 12 (testCount q) testsAt
+newDataAt q = specimensAt q + sumFrom (λ p. entrySpecimen p q) testSize (testCount q) testsAt
 
 -- Where its last body ends.
 unfoldable pub testWriteEnd : List ℕ → ℕ
-testWriteEnd q = newDataAt q + sumFrom (λ p. entryCount p q) 8 (writeCount q) (writesAt q)
+testWriteEnd q = newDataAt q + sumFrom (λ p. entryCount p q) entrySize (writeCount q) (writesAt q)
 
 -- The new length is 0 when the flag is 0.
 unfoldable pub cutOk : ℕ → ℕ → Bool
@@ -118,32 +136,27 @@ cutOk flag new = leb flag 1 && cond (eqb flag 0) (eqb new 0) true
 
 unfoldable pub testWriteOk : List ℕ → Bool
 testWriteOk q =
-    leb (testCount q) entryLimit
-    && (leb (writeCount q) entryLimit
-    && (cutOk (cutFlag q) (newLength q)
-    && (eqb (testWriteEnd q) (length q)
-    && allFrom (testEntryOk q) 12 (testCount q) testsAt)))
+    leb (testCount q) entryLimit && (leb (writeCount q) entryLimit && (cutOk (cutFlag q) (newLength q)
+    && (eqb (testWriteEnd q) (length q) && allFrom (testEntryOk q) testSize (testCount q) testsAt)))
 
 unfoldable pub cutOf : ℕ → ℕ → Option ℕ
 cutOf flag new = cond (eqb flag 0) none (some new)
 
 unfoldable pub testWriteOf : List ℕ → Request
 testWriteOf q =
-    testWrite (take 32 (drop 8 q))
-    (testsFrom (testCount q) testsAt (specimensAt q) q)
-    (writesFrom (writeCount q) (writesAt q) (newDataAt q) q)
-    (cutOf (cutFlag q) (newLength q))
+    testWrite (take secretSize (drop secretAt q)) (testsFrom (testCount q) testsAt (specimensAt q) q)
+    (writesFrom (writeCount q) (writesAt q) (newDataAt q) q) (cutOf (cutFlag q) (newLength q))
 
 -- Kind 2: 02 and a 92-byte record with owner not 0.
 unfoldable pub addOk : List ℕ → Bool
-addOk q = eqb (length q) 93 && held (drop 1 q)
+addOk q = eqb (length q) (1 + recordSize) && held (drop 1 q)
 
 -- Kind 3: 03, token 32, expiry 4. Kind 4: 04, token 32.
 unfoldable pub renewOk : List ℕ → Bool
-renewOk q = eqb (length q) 37
+renewOk q = eqb (length q) (1 + secretSize + 4)
 
 unfoldable pub cancelOk : List ℕ → Bool
-cancelOk q = eqb (length q) 33
+cancelOk q = eqb (length q) (1 + secretSize)
 
 -- Kind 5: 05, R, two zero bytes, R entries of 8.
 unfoldable pub readCount : List ℕ → ℕ
@@ -154,14 +167,8 @@ readsAt = 4
 
 unfoldable pub readOk : List ℕ → Bool
 readOk q =
-    leb (readCount q) entryLimit
-    && (eqb (getD q 2 0) 0
-    && (eqb (getD q 3 0) 0
-    && eqb (readsAt + 8 * readCount q) (length q)))
-
-unfoldable pub given : Bool → Request → Option Request
-given true r = some r
-given false r = none
+    leb (readCount q) entryLimit && (eqb (getD q 2 0) 0 && (eqb (getD q 3 0) 0
+    && eqb (readsAt + entrySize * readCount q) (length q)))
 
 -- By the first byte; any other kind, and the empty request, breaks the format.
 unfoldable pub kindOf : List ℕ → ℕ
@@ -169,11 +176,11 @@ kindOf q = getD q 0 0
 
 unfoldable pub byKind : ℕ → List ℕ → Option Request
 byKind k q =
-    cond (eqb k 1) (given (testWriteOk q) (testWriteOf q))
-    (cond (eqb k 2) (given (addOk q) (add (drop 1 q)))
-    (cond (eqb k 3) (given (renewOk q) (renew (take 32 (drop 1 q)) (numberAt 4 33 q)))
-    (cond (eqb k 4) (given (cancelOk q) (cancel (drop 1 q)))
-    (cond (eqb k 5) (given (readOk q) (read (readsFrom (readCount q) readsAt q)))
+    cond (eqb k 1) (cond (testWriteOk q) (some (testWriteOf q)) none)
+    (cond (eqb k 2) (cond (addOk q) (some (add (drop 1 q))) none)
+    (cond (eqb k 3) (cond (renewOk q) (some (renew (take secretSize (drop 1 q)) (numberAt 4 (1 + secretSize) q))) none)
+    (cond (eqb k 4) (cond (cancelOk q) (some (cancel (drop 1 q))) none)
+    (cond (eqb k 5) (cond (readOk q) (some (read (readsFrom (readCount q) readsAt q))) none)
     none))))
 
 unfoldable pub requestOf : List ℕ → Option Request

@@ -9,25 +9,18 @@ use lib.IntN.{ℤ, pos, negsuc}
 use Rattle.octets.specs.Numbers.{digits}
 use Rattle.octets.specs.Strings.{order, join}
 use Rattle.rules.specs.Requests.{Test, Read}
+use Rattle.octets.specs.Lists.{isSome, orElse}
 
 -- How an offset is resolved on data of a size: a position, or none where row 4 refuses it.
 unfoldable pub resolve : ℤ → ℕ → Option ℕ
 resolve (pos n) size = some n
 resolve (negsuc k) size = none
 
-unfoldable pub isSome : Option ℕ → Bool
-isSome none = false
-isSome (some n) = true
-
-unfoldable pub orZero : Option ℕ → ℕ
-orZero none = 0
-orZero (some n) = n
-
 unfoldable pub resolves : ℤ → ℕ → Bool
 resolves o size = isSome (resolve o size)
 
 unfoldable pub position : ℤ → ℕ → ℕ
-position o size = orZero (resolve o size)
+position o size = orElse (resolve o size) 0
 
 -- The data from an offset on, at most so many bytes, stopping at the end of data.
 unfoldable pub piece : List ℕ → ℤ → ℕ → List ℕ
@@ -57,24 +50,13 @@ atMost z = cond (below z) true (level z)
 
 unfoldable pub decides : ℕ → ℤ → Bool
 decides op z =
-    cond (eqb op 1) (below z)
-    (cond (eqb op 2) (atMost z)
-    (cond (eqb op 3) (level z)
-    (cond (eqb op 4) (not (level z))
+    cond (eqb op 1) (below z) (cond (eqb op 2) (atMost z)
+    (cond (eqb op 3) (level z) (cond (eqb op 4) (not (level z))
     (cond (eqb op 5) (not (below z)) (not (atMost z))))))
 
 -- The piece on the left, the specimen on the right.
 unfoldable pub holds : List ℕ → Test → Bool
 holds d t = decides (t .opcode) (order (testPiece d t) (t .specimen))
-
--- Over a table: whether every entry passes, whether some entry does.
-unfoldable pub every : {A : Type 0} → (A → Bool) → List A → Bool
-every test [] = true
-every test (x ∷ xs) = test x && every test xs
-
-unfoldable pub anyOf : {A : Type 0} → (A → Bool) → List A → Bool
-anyOf test [] = false
-anyOf test (x ∷ xs) = cond (test x) true (anyOf test xs)
 
 -- A reply: a table of 4-byte lengths, one for each piece, then the pieces.
 unfoldable pub replyOf : List (List ℕ) → List ℕ

@@ -22,10 +22,6 @@ unfoldable pub grow : ℕ → ℕ → ℕ → ℕ
 grow n at zero = n
 grow n at (suc k) = max n (at + suc k)
 
--- Whether a write of k bytes at a position covers position i.
-unfoldable pub covers : ℕ → ℕ → ℕ → Bool
-covers at k i = leb at i && ltb i (at + k)
-
 -- A write whose position is known.
 pub record Placed : Type 0 where
   pub at : ℕ
@@ -47,22 +43,11 @@ unfoldable pub writeAll : List Placed → List ℕ → List ℕ
 writeAll [] d = d
 writeAll (w ∷ ws) d = writeAll ws (writeAt d (w .at) (w .bytes))
 
-unfoldable pub sizeAll : List Placed → ℕ → ℕ
-sizeAll [] n = n
-sizeAll (w ∷ ws) n = sizeAll ws (grow n (w .at) (length (w .bytes)))
-
 -- The cut follows the writes: a new length below the size cuts, a larger one does nothing.
 unfoldable pub cutTo : Option ℕ → List ℕ → List ℕ
 cutTo none d = d
 cutTo (some n) d = take n d
 
-unfoldable pub cutSize : Option ℕ → ℕ → ℕ
-cutSize none n = n
-cutSize (some m) n = min m n
-
--- The data after a test-and-write, and its size.
+-- The data after a test-and-write.
 unfoldable pub rewritten : List Write → Option ℕ → List ℕ → List ℕ
 rewritten ws cut d = cutTo cut (writeAll (placed ws (length d)) d)
-
-unfoldable pub finalSize : List Write → Option ℕ → ℕ → ℕ
-finalSize ws cut n = cutSize cut (sizeAll (placed ws n) n)

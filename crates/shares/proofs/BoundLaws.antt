@@ -1,15 +1,18 @@
 -- Boundaries in order bound parts that lie inside the slice, for any edition of a share. Assumes nothing.
 use mathlib.Core.Path.{_≡_, refl}
 use mathlib.Core.Bool.{Bool, true, false, cond}
-use mathlib.Core.List.{List, [], _∷_}
-use Prim.Native.Nat.{ℕ, zero, suc, _≤_, _<_}
+use mathlib.Core.List.{List, [], _∷_, _++_}
+use Prim.Native.Nat.{ℕ, zero, suc, _+_, _-_, _≤_, _<_}
 use native.Mathlib.Nat.{not-suc-le-zero}
+use native.Mathlib.Numerals.{add-one}
 use native.Mathlib.Omega.{arith}
 use lib.Dec.{leb, ltb}
-use lib.ListN.{length, getD}
+use lib.ListN.{length, take, drop, getD, length-take, length-drop, take-append-drop}
+use lib.Seq.{drop-drop, take-take}
 use borrow.Author.Tests.{leb-true, ltb-true}
-use Rattle.format.proofs.WellFormed.{both}
-use Rattle.shares.specs.Bounds.{Bound, inOrder}
+use Rattle.octets.proofs.ListLaws.{both}
+use Rattle.shares.specs.Bounds.{Bound, inOrder, partOf}
+use Rattle.shares.specs.Facts.{Inside}
 
 -- The first boundary and those after it, as numbers; the last of them.
 unfoldable pub places : ℕ → List Bound → List ℕ
@@ -37,7 +40,8 @@ first-is a [] = refl
 first-is a (b ∷ bs) = refl
 
 -- Each boundary lies between its neighbours, and none beyond the last.
-pub in-order-parts : (a : ℕ) (bs : List Bound) (s : List ℕ) → inOrder a bs ≡ true → lastOf a bs ≡ length s → (i : ℕ) → i < length bs
+pub in-order-parts : (a : ℕ) (bs : List Bound) (s : List ℕ) → inOrder a bs ≡ true → lastOf a bs ≡ length s
+    → (i : ℕ) → i < length bs
     → (getD (places a bs) i 0 ≤ getD (places a bs) (suc i) 0) × (getD (places a bs) (suc i) 0 ≤ length s)
 unfolding inOrder lastOf places
 in-order-parts a [] s e l i h = absurd (not-suc-le-zero h)
@@ -45,4 +49,38 @@ in-order-parts a (b ∷ bs) s e l zero h =
     let p = both _ _ e in
     let f = first-is (b .at) bs in
     (omega (arith, f, step (b .strict) a (b .at) (p .0)), omega (arith, f, l, below-last (b .at) bs (p .1)))
-in-order-parts a (b ∷ bs) s e l (suc i) h = in-order-parts (b .at) bs s (both (cond (b .strict) (ltb a (b .at)) (leb a (b .at))) _ e .1) l i (omega arith)
+in-order-parts a (b ∷ bs) s e l (suc i) h =
+    let p = both (cond (b .strict) (ltb a (b .at)) (leb a (b .at))) (inOrder (b .at) bs) e in
+    in-order-parts (b .at) bs s (p .1) l i (omega arith)
+
+-- A part, from boundary i to boundary i + 1, as the code takes it.
+pub part-is : (i : ℕ) (bs s : List ℕ)
+    → take (getD bs (i + 1) 0 - getD bs i 0) (drop (getD bs i 0) s) ≡ partOf i bs s
+unfolding partOf
+part-is i bs s = rw add-one
+
+-- Parts of a slice, one after the other.
+module _ (bs s : List ℕ) (i : ℕ) (h : Inside bs (length s) i) where
+  pub risen : (getD bs i 0 ≤ getD bs (suc i) 0) × (getD bs (suc i) 0 ≤ length s)
+  risen = (rw (← add-one i) (h .rises), rw (← add-one i) (h .fits))
+
+  pub part-length : getD bs i 0 + length (partOf i bs s) ≡ getD bs (suc i) 0
+  unfolding partOf
+  part-length = simp (length-take, length-drop) (omega (arith, risen .0, risen .1))
+
+  -- A part and what comes after it.
+  pub part-on : (t : List ℕ) → t ≡ drop (getD bs (suc i) 0) s → partOf i bs s ++ t ≡ drop (getD bs i 0) s
+  unfolding partOf
+  part-on t e =
+      let a : ℕ = getD bs i 0 in
+      let n : ℕ = getD bs (suc i) 0 - a in
+      let k : a + n ≡ getD bs (suc i) 0 = omega (arith, risen .0) in
+      let q : drop (getD bs (suc i) 0) s ≡ drop n (drop a s) = rw (drop-drop n a s, k) in
+      rw (e, q) (take-append-drop n (drop a s))
+
+-- A part of a part is a part of the whole.
+pub part-within : (a k n : ℕ) (l : List ℕ) → a + k ≤ n → take k (drop a (take n l)) ≡ take k (drop a l)
+part-within zero k n l h = take-take k n l (omega arith)
+part-within (suc a) k zero l h = absurd (omega arith)
+part-within (suc a) k (suc n) [] h = refl
+part-within (suc a) k (suc n) (x ∷ l) h = part-within a k n l (omega arith)

@@ -1,97 +1,171 @@
--- What the checker answers, on a share and on a container, and that the parts it tells lie inside the caller's slice. Assumes nothing.
-use mathlib.Core.Path.{_≡_, refl}
+-- What the checker answers, and that the parts it tells lie inside the caller's slice. Assumes nothing.
+use mathlib.Core.Path.{_≡_, refl, sym, _∙_}
 use mathlib.Core.Bool.{Bool, true, false, cond}
 use mathlib.Core.List.{List, [], _∷_, map}
-use Prim.Native.Nat.{ℕ, zero, suc, _+_, _≤_, _<_}
+use Prim.Native.Nat.{ℕ, zero, suc, _+_, _-_, _≤_, _<_}
 use native.Mathlib.Nat.{not-suc-le-zero, zero-add}
 use native.Mathlib.Numerals.{add-one}
 use native.Mathlib.Omega.{arith}
 use lib.Dec.{eqb}
-use lib.ListN.{length, getD, getD-replicate}
-use borrow.Author.Tests.{eqb-true, ne-eqb}
-use Rattle.format.specs.Container.{dataAt, lengthAllowed, wellFormed, sizeOf, extrasOf, dataOf}
-use Rattle.format.proofs.WellFormed.{both, formed-facts, data-length, used-is}
-use Rattle.shares.specs.Bounds.{above, from}
-use Rattle.shares.specs.Share.{keyAt, signatureAt, chainAt, treeAt, shareDataAt, privateKeyAt, endAt, ordered, shareOutcome, boundsOf}
-use Rattle.shares.specs.Checked.{noBounds, checkedOf, containerOutcome, checkedContainer}
-use Rattle.shares.specs.Steps.{Inside, refused, boundsAt, checkedAt}
-use Rattle.shares.specs.declared.share.Checked.{Checked}
+use lib.ListN.{length, take, drop, getD, getD-replicate}
+use borrow.Author.Tests.{eqb-true, eqb-false, eq-eqb, ne-eqb}
+use Rattle.octets.proofs.ListLaws.{both}
+use Rattle.container.specs.Data.{lentOf, dataLent}
+use Rattle.container.proofs.DataLaws.{lends, lent-bytes}
+use Rattle.shares.specs.Bounds.{partOf}
+use Rattle.shares.specs.Header.{keyAt}
+use Rattle.shares.specs.Rows.{offsets, ordered, shareOutcome}
+use Rattle.shares.specs.Checked.{boundsOf, checkedOf, checkedContainer, refused, boundsAt, checkedAt}
+use Rattle.shares.specs.Facts.{Inside}
 use Rattle.shares.proofs.BoundLaws.{places, lastOf, in-order-parts}
-use Rattle.shares.proofs.ShareLaws.{outcome-ordered}
+use Rattle.shares.proofs.RowLaws.{order-facts, outcome-ordered}
+use Rattle.container.specs.declared.data.Lent.{Lent}
+use Rattle.shares.specs.declared.share.Checked.{Checked}
 
 -- ---- the answer
 pub checked-refused : (base n : ℕ) (s : List ℕ) → n ≡ shareOutcome s → (n ≡ 0 → ⊥) → refused n ≡ checkedAt base s
 unfolding checkedAt
 checked-refused base n s e h = rw (← e, ne-eqb _ _ h)
 
-pub checked-zero : (base : ℕ) (s bs : List ℕ) → shareOutcome s ≡ 0 → bs ≡ boundsAt base s → _≡_ {A = Checked} (record { number = 0; bounds = bs }) (checkedAt base s)
+pub checked-zero : (base : ℕ) (s bs : List ℕ) → shareOutcome s ≡ 0 → bs ≡ boundsAt base s
+    → _≡_ {A = Checked} (record { number = 0; bounds = bs }) (checkedAt base s)
 unfolding checkedAt
 checked-zero base s bs e b = rw (e, b)
 
-pub checked-bare : (s : List ℕ) → checkedAt 0 s ≡ checkedOf s
-unfolding checkedAt checkedOf boundsAt boundsOf
-checked-bare s = simp zero-add
+pub checked-number : (base : ℕ) (s : List ℕ) → checkedAt base s .number ≡ shareOutcome s
+unfolding checkedAt
+checked-number base s = go (eqb (shareOutcome s) 0) refl
+  where
+    go : (t : Bool) → eqb (shareOutcome s) 0 ≡ t
+        → cond t (record { number = 0; bounds = boundsAt base s }) (refused (shareOutcome s)) .number ≡ shareOutcome s
+    go true e = sym (eqb-true _ _ e)
+    go false e = refl
 
-formed-length : (c : List ℕ) → wellFormed c ≡ true → lengthAllowed c ≡ true
-unfolding wellFormed
-formed-length c e = both _ _ e .0
+bounds-zero : (base : ℕ) (s : List ℕ) → shareOutcome s ≡ 0 → checkedAt base s .bounds ≡ boundsAt base s
+unfolding checkedAt
+bounds-zero base s e = rw e
 
-pub container-formed : (c : List ℕ) → wellFormed c ≡ true → checkedContainer c ≡ checkedAt dataAt (dataOf c)
-unfolding checkedContainer containerOutcome checkedAt boundsAt
-container-formed c e = rw (formed-length c e, e)
+pub checked-bounds : (s : List ℕ) → shareOutcome s ≡ 0 → checkedOf s .bounds ≡ boundsOf s
+unfolding checkedOf checkedAt boundsAt boundsOf
+checked-bounds s e = rw e (simp zero-add)
 
-pub container-malformed : (c : List ℕ) → lengthAllowed c ≡ true → wellFormed c ≡ false → checkedContainer c ≡ refused 2
-unfolding checkedContainer containerOutcome
-container-malformed c l e = rw (l, e)
+pub container-refused : (c : List ℕ) → (lentOf c .number ≡ 0 → ⊥) → checkedContainer c ≡ refused (lentOf c .number)
+unfolding checkedContainer
+container-refused c h = rw (ne-eqb _ _ h)
 
-pub container-length : (c : List ℕ) → lengthAllowed c ≡ false → checkedContainer c ≡ refused 1
-unfolding checkedContainer containerOutcome
-container-length c l = rw l
+pub container-zero : (c : List ℕ) → lentOf c .number ≡ 0
+    → checkedContainer c ≡ checkedAt (lentOf c .from) (dataLent c)
+unfolding checkedContainer
+container-zero c h = rw (eq-eqb _ _ h)
+
+-- The same of what the code was lent.
+pub lent-refused : (c : List ℕ) (l : Lent) → l ≡ lentOf c → (l .number ≡ 0 → ⊥)
+    → refused (l .number) ≡ checkedContainer c
+lent-refused c l e h = let k : lentOf c .number ≡ 0 → ⊥ = rw e at h in rw e (sym (container-refused c k))
+
+pub lent-checked : (c : List ℕ) (l : Lent) → l ≡ lentOf c → l .number ≡ 0
+    → checkedAt (l .from) (take (l .to - l .from) (drop (l .from) c)) ≡ checkedContainer c
+lent-checked c l e h =
+    let z : lentOf c .number ≡ 0 = rw e at h in
+    rw (lent-bytes c l e, e) (sym (container-zero c z))
+
+-- What the number says of the answer: no bounds, or the share's.
+pub container-none : (c : List ℕ) → (checkedContainer c .number ≡ 0 → ⊥)
+    → checkedContainer c ≡ refused (checkedContainer c .number)
+container-none c n = go (eqb (lentOf c .number) 0) refl
+  where
+    go : (t : Bool) → eqb (lentOf c .number) 0 ≡ t → checkedContainer c ≡ refused (checkedContainer c .number)
+    go true e =
+        let q = container-zero c (eqb-true _ _ e) in
+        let k = checked-number (lentOf c .from) (dataLent c) in
+        rw q (sym (checked-refused (lentOf c .from) _ (dataLent c) k (rw q at n)))
+    go false e = rw (container-refused c (eqb-false _ _ e))
+
+pub container-shares : (c : List ℕ) → checkedContainer c .number ≡ 0
+    → (shareOutcome (dataLent c) ≡ 0) × (checkedContainer c .bounds ≡ boundsAt (lentOf c .from) (dataLent c))
+container-shares c z = go (eqb (lentOf c .number) 0) refl
+  where
+    go : (t : Bool) → eqb (lentOf c .number) 0 ≡ t
+        → (shareOutcome (dataLent c) ≡ 0) × (checkedContainer c .bounds ≡ boundsAt (lentOf c .from) (dataLent c))
+    go true e =
+        let q = container-zero c (eqb-true _ _ e) in
+        let o = sym (checked-number (lentOf c .from) (dataLent c)) ∙ (rw q at z) in
+        (o, rw q (bounds-zero (lentOf c .from) (dataLent c) o))
+    go false e = absurd (eqb-false _ _ e (rw (container-refused c (eqb-false _ _ e)) at z))
 
 -- ---- the parts
-bounds-inside : (s : List ℕ) (i : ℕ) → ordered s ≡ true → i < 6 → Inside (boundsOf s) (length s) i
+pub first-bound : (s : List ℕ) → getD (boundsOf s) 0 0 ≡ keyAt
+unfolding boundsOf
+first-bound s = refl
+
+pub last-bound : (s : List ℕ) → ordered s ≡ true → getD (boundsOf s) 6 0 ≡ length s
+unfolding boundsOf
+last-bound s e = order-facts s e .whole
+
+pub bounds-inside : (s : List ℕ) (i : ℕ) → ordered s ≡ true → i < 6 → Inside (boundsOf s) (length s) i
 unfolding ordered boundsOf places lastOf
 bounds-inside s i e h =
     let o = both _ _ e in
-    let p = in-order-parts keyAt (above (signatureAt s) ∷ above (chainAt s) ∷ from (treeAt s) ∷ from (shareDataAt s) ∷ from (privateKeyAt s) ∷ above (endAt s) ∷ []) s (o .0) (eqb-true _ _ (o .1)) i h in
+    let p = in-order-parts keyAt (offsets s) s (o .0) (eqb-true _ _ (o .1)) i h in
     record { rises = rw add-one (p .0); fits = rw add-one (p .1) }
 
-none-inside : (n i : ℕ) → i < 6 → Inside noBounds n i
-none-inside n i h =
+none-inside : (m n i : ℕ) → i < 6 → Inside (refused m .bounds) n i
+none-inside m n i h =
     let a = getD-replicate {A = ℕ} 7 i 0 0 (omega arith) in
     let b = getD-replicate {A = ℕ} 7 (i + 1) 0 0 (omega arith) in
     record { rises = rw (a, b) (omega arith); fits = rw b (omega arith) }
+
+pub none-empty : (m i : ℕ) (s : List ℕ) → i < 6
+    → (partOf i (refused m .bounds) s ≡ []) × (getD (refused m .bounds) i 0 ≡ 0)
+unfolding partOf
+none-empty m i s h =
+    let a = getD-replicate {A = ℕ} 7 i 0 0 (omega arith) in
+    let b = getD-replicate {A = ℕ} 7 (suc i) 0 0 (omega arith) in
+    (rw (a, b), a)
 
 getD-moved : (a : ℕ) (l : List ℕ) (i : ℕ) → i < length l → getD (map (λ b. a + b) l) i 0 ≡ a + getD l i 0
 getD-moved a [] i h = absurd (not-suc-le-zero h)
 getD-moved a (x ∷ l) zero h = refl
 getD-moved a (x ∷ l) (suc i) h = getD-moved a l i (omega arith)
 
-moved-inside : (base : ℕ) (s : List ℕ) (i : ℕ) → i < 6 → Inside (boundsOf s) (length s) i → Inside (boundsAt base s) (base + length s) i
+pub bounds-moved : (base : ℕ) (s : List ℕ) (i : ℕ) → i < 7
+    → getD (boundsAt base s) i 0 ≡ base + getD (boundsOf s) i 0
 unfolding boundsAt boundsOf
+bounds-moved base s i h = getD-moved base (boundsOf s) i h
+
+moved-inside : (base : ℕ) (s : List ℕ) (i : ℕ) → i < 6
+    → Inside (boundsOf s) (length s) i
+    → Inside (boundsAt base s) (base + length s) i
 moved-inside base s i h p =
-    let a = getD-moved base (boundsOf s) i (omega arith) in
-    let b = getD-moved base (boundsOf s) (i + 1) (omega arith) in
+    let a = bounds-moved base s i (omega arith) in
+    let b = bounds-moved base s (i + 1) (omega arith) in
     record { rises = omega (arith, a, b, p .rises); fits = omega (arith, b, p .fits) }
 
 checked-inside : (base : ℕ) (s : List ℕ) (i : ℕ) → i < 6 → Inside (checkedAt base s .bounds) (base + length s) i
 unfolding checkedAt
 checked-inside base s i h = go (eqb (shareOutcome s) 0) refl
   where
-    go : (t : Bool) → eqb (shareOutcome s) 0 ≡ t → Inside (cond t (boundsAt base s) noBounds) (base + length s) i
+    go : (t : Bool) → eqb (shareOutcome s) 0 ≡ t
+        → Inside
+        (cond t (record { number = 0; bounds = boundsAt base s }) (refused (shareOutcome s)) .bounds)
+        (base + length s)
+        i
     go true e = moved-inside base s i h (bounds-inside s i (outcome-ordered s (eqb-true _ _ e)) h)
-    go false e = none-inside (base + length s) i h
+    go false e = none-inside (shareOutcome s) (base + length s) i h
 
 within : (bs : List ℕ) (m n i : ℕ) → m ≤ n → Inside bs m i → Inside bs n i
 within bs m n i h p = record { rises = p .rises; fits = omega arith }
 
 pub share-inside : (s : List ℕ) (i : ℕ) → i < 6 → Inside (checkedOf s .bounds) (length s) i
-share-inside s i h = within (checkedOf s .bounds) (0 + length s) (length s) i (omega arith) (rw (checked-bare s) at (checked-inside 0 s i h))
+unfolding checkedOf
+share-inside s i h = within _ (0 + length s) (length s) i (omega arith) (checked-inside 0 s i h)
 
 pub container-inside : (c : List ℕ) (i : ℕ) → i < 6 → Inside (checkedContainer c .bounds) (length c) i
-container-inside c i h = go (lengthAllowed c) (wellFormed c) refl refl
+container-inside c i h = go (eqb (lentOf c .number) 0) refl
   where
-    go : (l w : Bool) → lengthAllowed c ≡ l → wellFormed c ≡ w → Inside (checkedContainer c .bounds) (length c) i
-    go true true a e = rw (container-formed c e) (within _ _ _ i (omega (arith, data-length c e, formed-facts c e .fields .fits, used-is (sizeOf c) (extrasOf c))) (checked-inside dataAt (dataOf c) i h))
-    go true false a e = rw (container-malformed c a e) (none-inside (length c) i h)
-    go false w a e = rw (container-length c a) (none-inside (length c) i h)
+    go : (t : Bool) → eqb (lentOf c .number) 0 ≡ t → Inside (checkedContainer c .bounds) (length c) i
+    go true e =
+        let l = lends c in
+        rw (container-zero c (eqb-true _ _ e))
+        (within _ _ _ i (omega arith) (checked-inside (lentOf c .from) (dataLent c) i h))
+    go false e = rw (container-refused c (eqb-false _ _ e)) (none-inside (lentOf c .number) (length c) i h)

@@ -1,5 +1,6 @@
--- Laws of the share: boundaries in order, the rows and their numbers, node numbers, and what the checker answers.
+-- Laws of the share: boundaries in order, node numbers, the rows, what the checker answers; demand 1.
 pub mod BoundLaws
-pub mod ShareLaws
 pub mod NodeLaws
+pub mod RowLaws
 pub mod CheckedLaws
+pub mod Demand1

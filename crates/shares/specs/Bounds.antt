@@ -22,8 +22,5 @@ inOrder a [] = true
 inOrder a (b ∷ bs) = cond (b .strict) (ltb a (b .at)) (leb a (b .at)) && inOrder (b .at) bs
 
 -- Part i of a slice: from boundary i to boundary i + 1.
-unfoldable pub partBetween : ℕ → ℕ → List ℕ → List ℕ
-partBetween a e s = take (e - a) (drop a s)
-
 unfoldable pub partOf : ℕ → List ℕ → List ℕ → List ℕ
-partOf i bs s = partBetween (getD bs i 0) (getD bs (suc i) 0) s
+partOf i bs s = take (getD bs (suc i) 0 - getD bs i 0) (drop (getD bs i 0) s)

@@ -1,34 +1,51 @@
--- What the checker answers, for a share's bytes and for a container that holds a share as its data.
+-- What the checker answers for a share's bytes, and for a container that holds a share as its data.
 use Prim.Native.Nat.{ℕ, _+_}
 use mathlib.Core.Bool.{cond}
-use mathlib.Core.List.{List, map}
-use lib.ListN.{replicate}
+use mathlib.Core.List.{List, [], _∷_, map}
+use lib.ListN.{getD, replicate}
 use lib.Dec.{eqb}
-use Rattle.format.specs.Container.{dataAt, lengthAllowed, wellFormed, dataOf}
+use Rattle.container.specs.Data.{lentOf, dataLent}
 use Rattle.shares.specs.Bounds.{partOf}
-use Rattle.shares.specs.Share.{shareOutcome, boundsOf}
+use Rattle.shares.specs.Header.{keyAt, signatureAt, chainAt, treeAt, shareDataAt, privateKeyAt, endAt}
+use Rattle.shares.specs.Rows.{shareOutcome}
 use Rattle.shares.specs.declared.share.Checked.{Checked}
 
--- On 0 the seven boundaries of the six parts; on a refusal zeros, so that every part is empty.
-abbrev pub noBounds : List ℕ
-noBounds = replicate 7 0
+-- The boundaries of the six parts: key, signature, chain, tree, share data, private key.
+unfoldable pub boundsOf : List ℕ → List ℕ
+boundsOf s = keyAt ∷ signatureAt s ∷ chainAt s ∷ treeAt s ∷ shareDataAt s ∷ privateKeyAt s ∷ endAt s ∷ []
 
+-- The same, counted from the start of a slice in which the share begins at byte `base`.
+unfoldable pub boundsAt : ℕ → List ℕ → List ℕ
+boundsAt base s = map (λ b. base + b) (boundsOf s)
+
+-- On a refusal all boundaries are 0, so that every part is empty and stands at the slice's start.
+abbrev pub refused : ℕ → Checked
+refused n = record { number = n; bounds = replicate 7 0 }
+
+-- The number, and on 0 the boundaries.
+unfoldable pub checkedAt : ℕ → List ℕ → Checked
+checkedAt base s =
+    cond (eqb (shareOutcome s) 0) (record { number = 0; bounds = boundsAt base s }) (refused (shareOutcome s))
+
+-- A share by itself begins at byte 0.
 unfoldable pub checkedOf : List ℕ → Checked
-checkedOf s = record { number = shareOutcome s; bounds = cond (eqb (shareOutcome s) 0) (boundsOf s) noBounds }
+checkedOf s = checkedAt 0 s
 
--- Part i of a share, that very part of the slice; empty on a refusal.
+-- Part i of a share, and where in the slice it begins.
 unfoldable pub sharePart : ℕ → List ℕ → List ℕ
 sharePart i s = partOf i (checkedOf s .bounds) s
 
--- A share inside a container is judged after the container, so 1 or 2 comes first; its bounds count from the container's first byte.
-unfoldable pub containerOutcome : List ℕ → ℕ
-containerOutcome c = cond (lengthAllowed c) (cond (wellFormed c) (shareOutcome (dataOf c)) 2) 1
+unfoldable pub partAt : ℕ → List ℕ → ℕ
+partAt i s = getD (checkedOf s .bounds) i 0
 
+-- A share in a container is judged after the container, so 1 or 2 comes first; bounds count from the container's start.
 unfoldable pub checkedContainer : List ℕ → Checked
-checkedContainer c = record {
-  number = containerOutcome c;
-  bounds = cond (eqb (containerOutcome c) 0) (map (λ b. dataAt + b) (boundsOf (dataOf c))) noBounds;
-}
+checkedContainer c =
+    cond (eqb (lentOf c .number) 0) (checkedAt (lentOf c .from) (dataLent c)) (refused (lentOf c .number))
 
+-- Part i of the share in a container, and where in the container's slice it begins.
 unfoldable pub containerPart : ℕ → List ℕ → List ℕ
 containerPart i c = partOf i (checkedContainer c .bounds) c
+
+unfoldable pub containerPartAt : ℕ → List ℕ → ℕ
+containerPartAt i c = getD (checkedContainer c .bounds) i 0

@@ -1,5 +1,8 @@
 -- The SDMF share of document 01.
 pub mod Bounds
-pub mod Share
+pub mod Header
+pub mod Nodes
+pub mod Rows
 pub mod Checked
-pub mod Steps
+pub mod Facts
+pub mod Claims

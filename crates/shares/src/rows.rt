@@ -5,8 +5,11 @@ ghost use mathlib.Core.Path.{_≡_};
 ghost use Prim.Native.Nat.{_≤_, _<_};
 ghost use lib.Dec.{eqb};
 ghost use lib.ListN.{length};
-ghost use Rattle.shares.specs.Share.{required, leastMultiple, ordered, chainOk, treeOk, shareOutcome};
-ghost use Rattle.shares.specs.Steps.{headOutcome, Laid, blockOk, bodyOutcome};
+ghost use Rattle.octets.specs.Rows.{firstRow};
+ghost use Rattle.shares.specs.Header.{keyAt, required};
+ghost use Rattle.shares.specs.Rows.{leastMultiple, ordered, chainOk, treeOk, blockOk, headRows, bodyRows};
+ghost use Rattle.shares.specs.Rows.{shareOutcome};
+ghost use Rattle.shares.specs.Facts.{OrderedOffsets};
 
 // Row 24. The least multiple may exceed 64 bits, so it is not formed: what it adds to n is taken off the segment.
 fn is_least_multiple(segment: u64, k: u64, n: u64) -> bool
@@ -26,7 +29,7 @@ fn is_least_multiple(segment: u64, k: u64, n: u64) -> bool
 
 // Row 25. The offsets are compared as they stand; only what is in order is used as a place in the slice.
 fn ordered(s: &[u8]) -> bool
-    requires { ⌜ 107 ≤ length (now s) ⌝ }
+    requires { ⌜ keyAt ≤ length (now s) ⌝ }
     ensures { λ r. ⌜ r ≡ ordered (now (s .entry)) ⌝ }
 {
     let signature = header::signature_at(s);
@@ -58,13 +61,13 @@ fn ordered(s: &[u8]) -> bool
 
 // Row 26.
 fn chain_ok(s: &[u8]) -> bool
-    requires { ⌜ Laid (now s) ⌝ }
+    requires { ⌜ OrderedOffsets (now s) ⌝ }
     ensures { λ r. ⌜ r ≡ chainOk (now (s .entry)) ⌝ }
 {
     let over = nodes::tree_over(header::total(s));
     let chain = header::chain_at(s) as usize;
     let size = header::tree_at(s) as usize - chain;
-    if size != 34 * over.depth {
+    if size != nodes::ENTRY_SIZE * over.depth {
         return false;
     }
     nodes::nodes_ok(s, 2 * over.leaves - 1, over.depth, chain)
@@ -72,11 +75,11 @@ fn chain_ok(s: &[u8]) -> bool
 
 // Row 27.
 fn tree_ok(s: &[u8]) -> bool
-    requires { ⌜ Laid (now s) ⌝ }
+    requires { ⌜ OrderedOffsets (now s) ⌝ }
     ensures { λ r. ⌜ r ≡ treeOk (now (s .entry)) ⌝ }
 {
     let size = header::share_data_at(s) - header::tree_at(s);
-    if size == 32 {
+    if size == header::HASH_SIZE as u64 {
         return true;
     }
     if header::data_length(s) != 0 {
@@ -87,7 +90,7 @@ fn tree_ok(s: &[u8]) -> bool
 
 // Row 28.
 fn block_ok(s: &[u8]) -> bool
-    requires { ⌜ Laid (now s) × (0 < required (now s)) ⌝ }
+    requires { ⌜ OrderedOffsets (now s) × (0 < required (now s)) ⌝ }
     ensures { λ r. ⌜ r ≡ blockOk (now (s .entry)) ⌝ }
 {
     let size = header::private_key_at(s) - header::share_data_at(s);
@@ -96,7 +99,7 @@ fn block_ok(s: &[u8]) -> bool
 
 // Rows 21 to 24, which need no offset.
 fn head_outcome(s: &[u8]) -> u32
-    ensures { λ r. ⌜ r ≡ headOutcome (now (s .entry)) ⌝ }
+    ensures { λ r. ⌜ r ≡ firstRow (headRows (now (s .entry))) ⌝ }
 {
     if (s.len() as u64) < header::KEY_AT {
         return 21;
@@ -119,8 +122,8 @@ fn head_outcome(s: &[u8]) -> u32
 
 // Rows 25 to 29. A share that comes here has its whole header and a k above 0.
 fn body_outcome(s: &[u8]) -> u32
-    requires { ⌜ (107 ≤ length (now s)) × (0 < required (now s)) ⌝ }
-    ensures { λ r. ⌜ r ≡ bodyOutcome (now (s .entry)) ⌝ }
+    requires { ⌜ (keyAt ≤ length (now s)) × (0 < required (now s)) ⌝ }
+    ensures { λ r. ⌜ r ≡ firstRow (bodyRows (now (s .entry))) ⌝ }
 {
     if !ordered(s) {
         return 25;

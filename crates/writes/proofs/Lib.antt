@@ -1,4 +1,4 @@
 -- Laws of the rewriting in place, which the proofs of this crate and of those above cite.
 pub mod TableLaws
-pub mod LayoutLaws
+pub mod RewriteLaws
 pub mod Whole

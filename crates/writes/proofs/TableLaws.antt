@@ -1,23 +1,32 @@
--- A table of writes, an entry at a time, as the two passes over it take it. Assumes nothing.
+-- The table of writes, an entry at a time, as the two passes over it take it. Assumes nothing.
 use mathlib.Core.Path.{_≡_, refl, sym, ap, _∙_}
-use mathlib.Core.Bool.{Bool, true, false, not, _&&_, true≢false, false≢true}
+use mathlib.Core.Bool.{Bool, true, false, _&&_}
 use mathlib.Core.List.{List, [], _∷_, map, append-nil}
-use Prim.Native.Nat.{ℕ, zero, suc, _+_, _-_, _≤_, _<_, min, max}
+use Prim.Native.Nat.{ℕ, zero, suc, _+_, _-_, _*_, _≤_, _<_, min, max}
 use native.Mathlib.Omega.{arith}
 use native.Mathlib.Nat.{add-zero}
+use lib.Dec.{ltb}
 use lib.ListN.{length, take, drop, replicate, length-take, length-drop, take-append-drop}
 use lib.Seq.{take-append-le, length-take-le}
+use borrow.Author.Tests.{ltb-true, ltb-false}
 use Rattle.octets.specs.Strings.{Octets}
 use Rattle.octets.specs.Moves.{put}
-use Rattle.rules.specs.Requests.{Write, entryOffset, entryCount, sumFrom, writesFrom}
+use Rattle.octets.proofs.ListLaws.{and-assoc, and-true}
+use Rattle.rules.specs.Requests.{Write, entrySize, entryOffset, entryCount, sumFrom, writesFrom}
 use Rattle.rules.specs.Testing.{resolves, position}
-use Rattle.rules.specs.Writing.{padTo, writeAt, grow, placed, writesResolve, writeAll, sizeAll}
-use Rattle.rules.proofs.WriteLaws.{clip, take-min}
-use Rattle.requests.specs.declared.cursors.Entry.{Entry}
+use Rattle.rules.specs.Writing.{padTo, writeAt, grow, placed, writesResolve, writeAll}
+use Rattle.rules.specs.Sizes.{sizeAll, clip}
+use Rattle.rules.proofs.WriteLaws.{take-min}
 use Rattle.requests.specs.Cursors.{entryAt}
+use Rattle.requests.specs.Offsets.{resolvedOf}
+use Rattle.requests.specs.Forms.{PartedIn}
 use Rattle.requests.proofs.CursorLaws.{position-below, count-below}
+use Rattle.requests.proofs.FormLaws.{sum-next, times-next}
+use Rattle.writes.specs.Sizes.{reachedBy}
+use Rattle.requests.specs.declared.cursors.Entry.{Entry}
+use Rattle.requests.specs.declared.offsets.Resolved.{Resolved}
+use Rattle.requests.specs.declared.forms.Parted.{Parted}
 use Rattle.writes.specs.declared.sizes.Reached.{Reached}
-use Rattle.writes.specs.Tables.{Table, reachedBy}
 
 -- ---- one write
 pub grow-some : (n at k : ℕ) → (k ≡ 0 → ⊥) → grow n at k ≡ max n (at + k)
@@ -36,120 +45,160 @@ unfolding writeAt padTo
 put-writes d at [] h = rw (append-nil, add-zero) (take-append-drop at d)
 put-writes d at (b ∷ bs) h = rw (take-append-le at d (replicate (at - length d) 0) (omega arith))
 
+-- At most each of two numbers, and one of them.
+least-is : (r x y : ℕ) → r ≤ x → r ≤ y → (r < x → r ≡ y) → r ≡ min x y
+least-is r x y h k e = go (ltb r x) refl
+  where
+    go : (b : Bool) → ltb r x ≡ b → r ≡ min x y
+    go true p = omega (arith, e (ltb-true r x p))
+    go false p = omega (arith, ltb-false r x p)
+
 -- A clipped write that begins inside the data, and one that begins behind it.
-pub write-near : (d : List ℕ) (at n : ℕ) (bs : List ℕ) → at < length d → n ≡ min (length d - at) (length bs) → put at (take n bs) d ≡ writeAt d at (take (length d - at) bs)
+pub write-near : (d : List ℕ) (at n : ℕ) (bs : List ℕ) → at < length d
+    → (n ≤ length d - at) × (n ≤ length bs) × (n < length d - at → n ≡ length bs)
+    → put at (take n bs) d ≡ writeAt d at (take (length d - at) bs)
 write-near d at n bs h e =
-    let k : take (length d - at) bs ≡ take n bs = take-min (length d - at) bs ∙ ap (λ (m : ℕ). take m bs) (sym e) in
+    let m : n ≡ min (length d - at) (length bs) = least-is n (length d - at) (length bs) (e .0) (e .1) (e .2) in
+    let k : take (length d - at) bs ≡ take n bs =
+    take-min (length d - at) bs ∙ ap (λ (i : ℕ). take i bs) (sym m) in
     rw k (put-writes d at (take n bs) (simp length-take (omega arith)))
 
 pub write-far : (d : List ℕ) (at : ℕ) (bs : List ℕ) → length d ≤ at → d ≡ writeAt d at (take (length d - at) bs)
 unfolding writeAt
 write-far d at bs h = let k : length d - at ≡ 0 = omega arith in rw k
 
--- ---- an entry taken off a table
--- e is the entry at p of a table of v writes, w of which stand behind it; its offset is resolved on data of a size.
-pub record Taken (q : List ℕ) (p b v w size : ℕ) (e : Entry) : Type 0 where
-  pub one : v ≡ suc w
-  pub table : Table v p b q
-  pub is : e ≡ entryAt p q size
+-- ---- an entry taken off the table
+-- v writes from p on, whose new bytes stand one after the other from b on, inside the request.
+pub record Rest (q : List ℕ) (v p b : ℕ) : Type 0 where
+  pub rows : p + entrySize * v ≤ length q
+  pub bodies : b + sumFrom (λ i. entryCount i q) entrySize v p ≤ length q
 
-module _ {q : List ℕ} {p b v w size : ℕ} {e : Entry} (K : Taken q p b v w size e) where
-  bodies-are : sumFrom (λ i. entryCount i q) 8 v p ≡ entryCount p q + sumFrom (λ i. entryCount i q) 8 w (p + 8)
-  unfolding sumFrom
-  bodies-are = rw (K .one)
+pub rest-start : (q : List ℕ) (t : Parted) → PartedIn q t
+    → Rest q (t .writes .count) (t .writes .first .at) (t .bodies .at)
+rest-start q t k = record { rows = rw (k .writes-stride) at (k .writes .inside); bodies = k .bodies }
 
-  writes-are : writesFrom v p b q ≡ record { offset = entryOffset p q; bytes = take (entryCount p q) (drop b q) } ∷ writesFrom w (p + 8) (b + entryCount p q) q
+pub rest-fits : {q : List ℕ} {v p b : ℕ} → Rest q v p b → 0 < v → p + entrySize ≤ length q
+rest-fits {q} {v} {p} R h = omega (arith, R .rows, times-next entrySize v p h)
+
+-- e is the first of these entries, and r its place on data of a size.
+pub record Taken (q : List ℕ) (v p b size : ℕ) (e : Entry) (r : Resolved) : Type 0 where
+  pub some : 0 < v
+  pub rest : Rest q v p b
+  pub entry : e ≡ entryAt p entrySize q
+  pub place : r ≡ resolvedOf (entryOffset p q) size
+
+module _ {q : List ℕ} {v p b size : ℕ} {e : Entry} {r : Resolved} (K : Taken q v p b size e r) where
+  bodies-are : sumFrom (λ i. entryCount i q) entrySize v p
+      ≡ entryCount p q + sumFrom (λ i. entryCount i q) entrySize (v - 1) (p + entrySize)
+  bodies-are = sum-next entrySize v p (K .some) (λ i. entryCount i q)
+
+  writes-are : writesFrom v p b q
+      ≡ record { offset = entryOffset p q; bytes = take (entryCount p q) (drop b q) }
+      ∷ writesFrom (v - 1) (p + entrySize) (b + entryCount p q) q
   unfolding writesFrom
-  writes-are = rw (K .one)
+  writes-are = let one : v ≡ suc (v - 1) = omega (arith, K .some) in ap (λ (n : ℕ). writesFrom n p b q) one
 
-  body-length : length (take (entryCount p q) (drop b q)) ≡ entryCount p q
-  body-length = length-take-le (entryCount p q) (drop b q) (rw length-drop (omega (arith, bodies-are, K .table .bodies)))
+  pub body-length : length (take (entryCount p q) (drop b q)) ≡ entryCount p q
+  body-length =
+      length-take-le (entryCount p q) (drop b q) (rw length-drop (omega (arith, bodies-are, K .rest .bodies)))
 
   pub entry-fits : b + e .count ≤ length q
-  entry-fits = rw (K .is) (omega (arith, bodies-are, K .table .bodies))
+  entry-fits = rw (K .entry) (omega (arith, bodies-are, K .rest .bodies))
 
-  pub entry-table : Table w (e .next .at) (b + e .count) q
-  entry-table = rw (K .is) (record { few = omega (arith, K .one, K .table .few); rows = omega (arith, K .one, K .table .rows); bodies = omega (arith, bodies-are, K .table .bodies) })
+  pub entry-rest : Rest q (v - 1) (e .next .at) (b + e .count)
+  entry-rest =
+      rw (K .entry)
+      (record {
+        rows = omega (arith, K .rest .rows, times-next entrySize v p (K .some));
+        bodies = omega (arith, bodies-are, K .rest .bodies);
+      })
 
-  pub entry-bounds : Octets q → (e .position < 4294967296) × (e .count < 4294967296)
-  entry-bounds o = rw (K .is) (omega (arith, position-below p q size), count-below p q o)
+  pub entry-bounds : Octets q → (r .position < 4294967296) × (e .count < 4294967296)
+  entry-bounds o = rw (K .place, K .entry) (omega (arith, position-below p q size), count-below p q o)
 
   -- What is left behind the entry, and the size that its offsets are resolved on.
   abbrev pub left : List Write
-  left = writesFrom w (e .next .at) (b + e .count) q
+  left = writesFrom (v - 1) (e .next .at) (b + e .count) q
 
   abbrev pub onward : ℕ
-  onward = grow size (e .position) (e .count)
+  onward = grow size (r .position) (e .count)
 
-  entry-resolves : writesResolve (writesFrom v p b q) size ≡ (e .resolves && writesResolve left onward)
+  entry-resolves : writesResolve (writesFrom v p b q) size ≡ (r .resolves && writesResolve left onward)
   unfolding writesResolve
-  entry-resolves = rw (K .is, writes-are, body-length)
+  entry-resolves = rw (K .place, K .entry, writes-are, body-length)
 
-  entry-placed : placed (writesFrom v p b q) size ≡ record { at = e .position; bytes = take (e .count) (drop b q) } ∷ placed left onward
+  pub entry-placed : placed (writesFrom v p b q) size
+      ≡ record { at = r .position; bytes = take (e .count) (drop b q) } ∷ placed left onward
   unfolding placed
-  entry-placed = rw (K .is, writes-are, body-length)
+  entry-placed = rw (K .place, K .entry, writes-are, body-length)
 
   entry-size : sizeAll (placed (writesFrom v p b q) size) size ≡ sizeAll (placed left onward) onward
   unfolding sizeAll
   entry-size =
-      let l : length (take (e .count) (drop b q)) ≡ e .count = rw (K .is) body-length in
-      rw entry-placed (ap (λ (m : ℕ). sizeAll (placed left onward) (grow size (e .position) m)) l)
+      let l : length (take (e .count) (drop b q)) ≡ e .count = rw (K .entry) body-length in
+      rw entry-placed (ap (λ (m : ℕ). sizeAll (placed left onward) (grow size (r .position) m)) l)
 
-  -- A turn of the loop that writes.
-  pub entry-written : (F : ℕ) (d r : List ℕ) → F ≡ length d → r ≡ writeAt d (e .position) (take (length d - e .position) (take (b + e .count - b) (drop b q)))
-      → writeAll (map (clip F) (placed left onward)) r ≡ writeAll (map (clip F) (placed (writesFrom v p b q) size)) d
+  entry-written : (F : ℕ) (d x : List ℕ) → F ≡ length d
+      → x ≡ writeAt d (r .position) (take (length d - r .position) (take (e .count) (drop b q)))
+      → writeAll (map (clip F) (placed left onward)) x ≡ writeAll (map (clip F) (placed (writesFrom v p b q) size)) d
   unfolding writeAll clip
-  entry-written F d r l g =
-      let m : b + e .count - b ≡ e .count = omega arith in
-      rw (entry-placed, g, m, l)
+  entry-written F d x l g = rw (entry-placed, g, l)
 
 -- Nothing left.
-pub none-left : (v p b : ℕ) (q : List ℕ) → v ≤ 0 → writesFrom v p b q ≡ []
+none-left : (v p b : ℕ) (q : List ℕ) → v ≤ 0 → writesFrom v p b q ≡ []
 unfolding writesFrom
 none-left zero p b q h = refl
 none-left (suc v) p b q h = absurd (omega arith)
 
-pub none-written : (v p b : ℕ) (q : List ℕ) (F size : ℕ) (d : List ℕ) → v ≤ 0 → writeAll (map (clip F) (placed (writesFrom v p b q) size)) d ≡ d
-unfolding placed writeAll
-none-written v p b q F size d h = rw (none-left v p b q h)
-
 -- ---- the loop over the sizes
 -- With `resolves` and `after` so far and the writes ws to come.
 abbrev pub reaching : Bool → List Write → ℕ → Reached
-reaching resolves ws after = record { resolves = resolves && writesResolve ws after; size = sizeAll (placed ws after) after }
+reaching resolves ws after =
+    record { resolves = resolves && writesResolve ws after; size = sizeAll (placed ws after) after }
 
-pub record Reaching (q : List ℕ) (ws : List Write) (size left at : ℕ) (resolves : Bool) (after : ℕ) : Type 0 where
+pub record Reaching (q : List ℕ) (ws : List Write) (size v at : ℕ) (resolves : Bool) (after : ℕ) : Type 0 where
   pub body : ℕ
-  pub table : Table left at body q
-  pub reached : reaching resolves (writesFrom left at body q) after ≡ reachedBy ws size
+  pub rest : Rest q v at body
+  pub reached : reaching resolves (writesFrom v at body q) after ≡ reachedBy ws size
 
-and-assoc : (a b c : Bool) → ((a && b) && c) ≡ (a && (b && c))
-and-assoc true b c = refl
-and-assoc false b c = refl
-
-and-true : (a : Bool) → (a && true) ≡ a
-and-true true = refl
-and-true false = refl
-
--- What the test of an entry leaves of `resolves`.
-pub still : (r t s : Bool) → not t ≡ false → s ≡ r → s ≡ (r && t)
-still r true s e g = g ∙ sym (and-true r)
-still r false s e g = absurd (true≢false e)
-
-pub no-more : (r t s : Bool) → not t ≡ true → s ≡ false → s ≡ (r && t)
-no-more r true s e g = absurd (false≢true e)
-no-more true false s e g = g
-no-more false false s e g = g
-
-module _ {q : List ℕ} {ws : List Write} {size v at : ℕ} {r : Bool} {after : ℕ} (R : Reaching q ws size v at r after) where
-  pub reach-turn : {w : ℕ} {e : Entry} → Taken q at (R .body) v w after e → (s : Bool) (next : ℕ) → s ≡ (r && e .resolves) → next ≡ grow after (e .position) (e .count)
-      → Reaching q ws size w (e .next .at) s next
-  reach-turn K s next g h = record {
+module _ {q : List ℕ} {ws : List Write} {size v at : ℕ} {s : Bool} {after : ℕ}
+    (R : Reaching q ws size v at s after) where
+  pub reaching-next : {e : Entry} {r : Resolved} → Taken q v at (R .body) after e r → (x : Bool) (next : ℕ)
+      → x ≡ (s && r .resolves) → next ≡ grow after (r .position) (e .count)
+      → Reaching q ws size (v - 1) (e .next .at) x next
+  reaching-next K x next g h = record {
     body = _;
-    table = entry-table K;
+    rest = entry-rest K;
     reached = rw (g, h, and-assoc, ← entry-resolves K, ← entry-size K) (R .reached);
   }
 
-  pub reach-end : v ≤ 0 → _≡_ {A = Reached} (record { resolves = r; size = after }) (reachedBy ws size)
+  pub reaching-end : v ≤ 0 → _≡_ {A = Reached} (record { resolves = s; size = after }) (reachedBy ws size)
   unfolding writesResolve placed sizeAll
-  reach-end h = rw (none-left v at (R .body) q h, and-true) at (R .reached)
+  reaching-end h = rw (none-left v at (R .body) q h, and-true) at (R .reached)
+
+-- ---- the loop that writes
+-- The writes that are left, put into the present data d, give what all of them, ws, give in the first data a.
+pub record Overlaying (q : List ℕ) (ws : List Write) (size : ℕ) (a d : List ℕ) (v at body after : ℕ) : Type 0 where
+  pub rest : Rest q v at body
+  pub same : length d ≡ length a
+  pub written : writeAll (map (clip (length a)) (placed (writesFrom v at body q) after)) d
+      ≡ writeAll (map (clip (length a)) (placed ws size)) a
+
+module _ {q : List ℕ} {ws : List Write} {size : ℕ} {a d : List ℕ} {v at body after : ℕ}
+    (O : Overlaying q ws size a d v at body after) where
+  pub overlaying-next : {e : Entry} {r : Resolved} → Taken q v at body after e r → (x : List ℕ) (behind next : ℕ)
+      → length x ≡ length d
+      → x ≡ writeAt d (r .position) (take (length d - r .position) (take (body + e .count - body) (drop body q)))
+      → behind ≡ body + e .count → next ≡ grow after (r .position) (e .count)
+      → Overlaying q ws size a x (v - 1) (e .next .at) behind next
+  overlaying-next {e} {r} K x behind next l g k h =
+      let m : body + e .count - body ≡ e .count = omega arith in
+      rw (k, h) (record {
+        rest = entry-rest K;
+        same = l ∙ O .same;
+        written = entry-written K (length a) d x (sym (O .same)) (rw m at g) ∙ O .written;
+      })
+
+  pub overlaying-end : v ≤ 0 → d ≡ writeAll (map (clip (length a)) (placed ws size)) a
+  unfolding placed writeAll
+  overlaying-end h = rw (none-left v at body q h) at (O .written)

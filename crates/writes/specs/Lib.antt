@@ -1,3 +1,3 @@
 -- What the contracts of this crate cite beside the rules.
-pub mod Tables
-pub mod Layout
+pub mod Sizes
+pub mod Rewrite

@@ -1,10 +1,14 @@
 // Sizes before anything is written: a size that exists only on the way is never materialised.
 ghost use mathlib.Core.Path.{_≡_};
 ghost use Prim.Native.Nat.{_<_};
-ghost use Rattle.rules.specs.Requests.{writesFrom};
-ghost use Rattle.rules.specs.Writing.{grow, cutSize};
-ghost use Rattle.writes.specs.Tables.{Table, reachedBy, cutBy};
-use requests::cursors::Cursor;
+ghost use Rattle.rules.specs.Writing.{grow};
+ghost use Rattle.rules.specs.Sizes.{cutSize};
+ghost use Rattle.requests.specs.Forms.{PartedIn, writesIn, cutIn};
+ghost use Rattle.writes.specs.Sizes.{reachedBy};
+use requests::cursors::ENTRY_SIZE;
+use requests::forms::Cut;
+use requests::forms::Parted;
+use requests::offsets::resolve;
 
 // Whether every offset resolves, each on the size that the writes before it give, and the size after all of them.
 pub struct Reached {
@@ -26,21 +30,21 @@ pub(crate) fn grown(size: usize, position: usize, count: usize) -> usize
     size
 }
 
-// The size after the writes of the table.
-pub fn reach(q: &[u8], from: usize, n: usize, bodies: usize, size: usize) -> Reached
-    requires { ⌜ Table n from bodies (now q) ⌝ }
-    ensures { λ r. ⌜ r ≡ reachedBy (writesFrom n from bodies (now (q .entry))) size ⌝ }
+// The size after the writes.
+pub fn reach(q: &[u8], t: Parted, size: usize) -> Reached
+    requires { ⌜ PartedIn (now q) t ⌝ }
+    ensures { λ r. ⌜ r ≡ reachedBy (writesIn t (now (q .entry))) size ⌝ }
 {
-    let mut left = n;
-    let mut cursor = Cursor { at: from };
+    let table = t.writes;
+    let mut left = table.count;
+    let mut cursor = table.first;
     let mut resolves = true;
     let mut after = size;
     while 0 < left {
-        let entry = cursor.entry(q, after);
-        if !entry.resolves {
-            resolves = false;
-        }
-        after = grown(after, entry.position, entry.count);
+        let entry = cursor.entry(q, ENTRY_SIZE);
+        let place = resolve(entry.offset, after);
+        resolves = octets::choices::both(resolves, place.resolves);
+        after = grown(after, place.position, entry.count);
         cursor = entry.next;
         left -= 1;
     }
@@ -51,12 +55,12 @@ pub fn reach(q: &[u8], from: usize, n: usize, bodies: usize, size: usize) -> Rea
 }
 
 // The size after the cut.
-pub fn cut_size(size: usize, cut: bool, new: usize) -> usize
-    ensures { λ r. ⌜ r ≡ cutSize (cutBy cut new) size ⌝ }
+pub fn cut_size(size: usize, cut: Cut) -> usize
+    ensures { λ r. ⌜ r ≡ cutSize (cutIn cut) size ⌝ }
 {
-    if cut {
-        if new < size {
-            return new;
+    if cut.set {
+        if cut.length < size {
+            return cut.length;
         }
     }
     size

@@ -3,7 +3,7 @@ use mathlib.Core.Path.{ap}
 use mathlib.Core.List.{List}
 use Prim.Native.Nat.{ℕ}
 use borrow.Author.Needs.{needs}
-use Rattle.format.specs.Container.{nodeOf}
+use Rattle.format.specs.Layout.{nodeOf}
 use Rattle.rules.specs.Outcomes.{answerOf}
 use Rattle.container.proofs.answers.enabler_differs.Statement.{statement}
 use Rattle.container.proofs.answers.enabler_differs.Tie as tie

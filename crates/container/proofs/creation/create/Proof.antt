@@ -5,7 +5,7 @@ use native.Mathlib.Omega.{arith}
 use lib.ListN.{length}
 use borrow.Author.Tests.{eq-eqb, ne-eqb}
 use Rattle.format.specs.Container.{lengthAllowed}
-use Rattle.format.proofs.JudgedLaws.{length-true, too-short, too-long}
+use Rattle.format.proofs.JudgingLaws.{length-true, too-short, too-long}
 use Rattle.container.proofs.FreshLaws.{create-length, create-lengths, create-magic, create-done}
 use borrow.Author.Needs.{needs}
 use Rattle.container.proofs.creation.create.Statement.{statement}

@@ -1,8 +1,9 @@
--- The buffer is judged first: outcomes 1 and 2, then the request.
-use mathlib.Core.Path.{sym, _∙_}
-use borrow.Author.Needs.{needs}
-use Rattle.format.proofs.JudgedLaws.{judged-formed, judged-malformed, judged-length}
+-- The container first, then the request.
+use mathlib.Core.Path.{subst, _∙_}
+use Rattle.format.specs.Judging.{Judges}
+use Rattle.format.proofs.JudgingLaws.{judged-formed, judged-malformed, judged-length}
 use Rattle.container.proofs.RefusalLaws.{bad-length, malformed}
+use borrow.Author.Needs.{needs}
 use Rattle.container.proofs.requesting.apply.Statement.{statement}
 use Rattle.container.proofs.requesting.apply.Tie as tie
 
@@ -21,13 +22,11 @@ enum-told-2 c = search needs
 answer-requires-2 : tie.Need-answer-requires-2
 answer-requires-2 c κs = search needs
 
-enum-known-size : tie.Need-enum-known-size
-enum-known-size c = search needs
+enum-known-frame : tie.Need-enum-known-frame
+enum-known-frame c = search needs
 
 apply-formed-requires : tie.Need-apply-formed-requires
-apply-formed-requires c κs =
-    let f = judged-formed (c .before .before .before .before .before .before .before .before .before .before .args .c .now) _ _ (sym (c .before .before .before .size .given .1) ∙ c .before .before .before .before .before .judge .ensures) in
-    record { formed = f .0; size-is = f .1; extras-is = f .2 }
+apply-formed-requires c κs = judged-formed _ _ (subst (Judges _) (c .before .before .before .frame .given .1) (c .before .before .before .before .before .judge .ensures))
 
 same-length : tie.Need-same-length
 same-length c = search needs
@@ -35,7 +34,8 @@ same-length c = search needs
 returns : tie.Need-returns
 returns c =
     let s = c .before .before .before .before .before .before .before .before in
-    let r = bad-length (s .args .c .now) (s .args .q .now) (s .args .r .now) (judged-length _ (sym (c .before .enum-told .given .1) ∙ c .before .before .before .judge .ensures)) in
+    let j = subst (Judges _) (c .before .enum-told .given .1) (c .before .before .before .judge .ensures) in
+    let r = bad-length (s .args .c .now) (s .args .q .now) (s .args .r .now) (judged-length _ j) in
     (c .answer .ensures ∙ r .answer, (r .container, r .reply))
 
 same-length-2 : tie.Need-same-length-2
@@ -44,7 +44,7 @@ same-length-2 c = search needs
 returns-2 : tie.Need-returns-2
 returns-2 c =
     let s = c .before .before .before .before .before .before .before .before in
-    let m = judged-malformed (s .args .c .now) (sym (c .before .enum-told2 .given .1) ∙ c .before .before .before .judge .ensures) in
+    let m = judged-malformed _ (subst (Judges _) (c .before .enum-told2 .given .1) (c .before .before .before .judge .ensures)) in
     let r = malformed (s .args .c .now) (s .args .q .now) (s .args .r .now) (m .0) (m .1) in
     (c .answer2 .ensures ∙ r .answer, (r .container, r .reply))
 
@@ -66,7 +66,7 @@ apply-spec =
     answer-requires
     enum-told-2
     answer-requires-2
-    enum-known-size
+    enum-known-frame
     apply-formed-requires
     same-length
     returns

@@ -1,16 +1,20 @@
 -- Each form goes to its operation; a broken one is refused.
-use native.Mathlib.Omega.{arith}
-use mathlib.Core.Path.{sym, _∙_}
+use mathlib.Core.Path.{_≡_, sym, ap, subst, _∙_}
 use mathlib.Core.List.{List}
 use Prim.Native.Nat.{ℕ}
-use lib.ListN.{take, drop}
-use borrow.Author.Needs.{needs}
-use Rattle.octets.specs.Numbers.{numberAt}
-use Rattle.rules.specs.Requests.{add, renew, cancel}
-use Rattle.requests.proofs.FormLaws.{form-broken, form-test-write, form-add, form-renew, form-cancel, form-read}
-use Rattle.container.proofs.LeaseRequestLaws.{lease-reply}
-use Rattle.container.proofs.ReadLaws.{read-container}
+use native.Mathlib.Omega.{arith}
+use lib.ListN.{length}
+use Rattle.format.specs.Container.{held}
+use Rattle.format.specs.Parts.{partsOf}
+use Rattle.rules.specs.Requests.{add, renew, cancel, requestOf}
+use Rattle.requests.specs.Cursors.{bodyOf}
+use Rattle.requests.specs.Forms.{Takes}
+use Rattle.requests.proofs.CursorLaws.{body-length}
+use Rattle.leases.specs.Operations.{leaseDone, leaseContainer}
 use Rattle.container.proofs.RefusalLaws.{broken}
+use Rattle.container.proofs.LeaseRequestLaws.{lease-results}
+use Rattle.container.proofs.ReadLaws.{read-container}
+use borrow.Author.Needs.{needs}
 use Rattle.container.proofs.requesting.apply_formed.Statement.{statement}
 use Rattle.container.proofs.requesting.apply_formed.Tie as tie
 
@@ -28,51 +32,71 @@ enum-known-t c = search needs
 
 test-and-write-requires : tie.Need-test-and-write-requires
 test-and-write-requires c κs =
-    let s = c .before .before .before .before .before .before .before .before .before in
-    let f = form-test-write (s .args .q .now) _ (sym (c .before .before .before .t .given .1) ∙ c .before .before .before .before .before .form-of .ensures) in
-    (s .pre, record { table = f .0; ok = f .1; short = f .2; is = f .3 })
+    let f = subst (Takes _ _) (c .before .before .before .t .given .1) (c .before .before .before .before .before .form-of .ensures) in
+    (c .before .before .before .before .before .before .before .before .before .pre, record { parted = f .inside; is = sym (f .asks) })
 
-enum-told-2 : tie.Need-enum-told-2
-enum-told-2 c = search needs
+enum-known-lease : tie.Need-enum-known-lease
+enum-known-lease c = search needs
 
-add-requires : tie.Need-add-requires
-add-requires c κs =
-    let s = c .before .before .before .before .before .before .before in
-    let f = form-add (s .args .q .now) (sym (c .before .enum-told2 .given .1) ∙ c .before .before .before .form-of .ensures) in
-    (s .pre, record { ok = f .0; is = f .1 })
+bytes-requires : tie.Need-bytes-requires
+bytes-requires c κs =
+    let b = subst (Takes _ _) (c .before .before .lease .given .1) (c .before .before .before .before .form-of .ensures) .inside .0 in
+    (omega (arith, b .size), b .fits)
 
-enum-told-3 : tie.Need-enum-told-3
-enum-told-3 c = search needs
+add-lease-requires : tie.Need-add-lease-requires
+add-lease-requires c κs =
+    let i = subst (Takes _ _) (c .before .before .before .lease .given .1) (c .before .before .before .before .before .form-of .ensures) .inside in
+    let e = c .bytes .ensures in
+    (c .before .before .before .before .before .before .before .before .before .pre, ap length e ∙ body-length _ _ _ (i .0), ap held e ∙ i .1)
 
-renew-requires : tie.Need-renew-requires
-renew-requires c κs =
-    let s = c .before .before .before .before .before .before .before in
-    let f = form-renew (s .args .q .now) (sym (c .before .enum-told3 .given .1) ∙ c .before .before .before .form-of .ensures) in
-    (s .pre, record { ok = f .0; is = f .1 })
+answer-requires-2 : tie.Need-answer-requires-2
+answer-requires-2 c κs = search needs
 
-enum-told-4 : tie.Need-enum-told-4
-enum-told-4 c = search needs
+enum-known-token : tie.Need-enum-known-token
+enum-known-token c = search needs
 
-cancel-requires : tie.Need-cancel-requires
-cancel-requires c κs =
-    let s = c .before .before .before .before .before .before .before in
-    let f = form-cancel (s .args .q .now) (sym (c .before .enum-told4 .given .1) ∙ c .before .before .before .form-of .ensures) in
-    (s .pre, record { ok = f .0; is = f .1 })
+bytes-requires-2 : tie.Need-bytes-requires-2
+bytes-requires-2 c κs =
+    let b = subst (Takes _ _) (c .before .before .token .given .1) (c .before .before .before .before .form-of .ensures) .inside in
+    (omega (arith, b .size), b .fits)
 
-enum-known-n : tie.Need-enum-known-n
-enum-known-n c = search needs
+renew-lease-requires : tie.Need-renew-lease-requires
+renew-lease-requires c κs =
+    let i = subst (Takes _ _) (c .before .before .before .token .given .1) (c .before .before .before .before .before .form-of .ensures) .inside in
+    (c .before .before .before .before .before .before .before .before .before .pre, ap length (c .bytes2 .ensures) ∙ body-length _ _ _ i)
+
+answer-requires-3 : tie.Need-answer-requires-3
+answer-requires-3 c κs = search needs
+
+enum-known-token-2 : tie.Need-enum-known-token-2
+enum-known-token-2 c = search needs
+
+bytes-requires-3 : tie.Need-bytes-requires-3
+bytes-requires-3 c κs =
+    let b = subst (Takes _ _) (c .before .before .token2 .given .1) (c .before .before .before .before .form-of .ensures) .inside in
+    (omega (arith, b .size), b .fits)
+
+cancel-lease-requires : tie.Need-cancel-lease-requires
+cancel-lease-requires c κs =
+    let i = subst (Takes _ _) (c .before .before .before .token2 .given .1) (c .before .before .before .before .before .form-of .ensures) .inside in
+    (c .before .before .before .before .before .before .before .before .before .pre, ap length (c .bytes3 .ensures) ∙ body-length _ _ _ i)
+
+answer-requires-4 : tie.Need-answer-requires-4
+answer-requires-4 c κs = search needs
+
+enum-known-t-2 : tie.Need-enum-known-t-2
+enum-known-t-2 c = search needs
 
 read-requires : tie.Need-read-requires
 read-requires c κs =
-    let s = c .before .before .before .before .before .before .before .before .before in
-    let f = form-read (s .args .q .now) _ (sym (c .before .before .before .n .given .1) ∙ c .before .before .before .before .before .form-of .ensures) in
-    (s .pre, record { count = f .0; ok = f .1; is = f .2 })
+    let f = subst (Takes _ _) (c .before .before .before .t2 .given .1) (c .before .before .before .before .before .form-of .ensures) in
+    (c .before .before .before .before .before .before .before .before .before .pre, record { table = f .inside .0; stride = f .inside .1; is = sym (f .asks) })
 
 returns : tie.Need-returns
 returns c =
     let s = c .before .before .before .before .before .before .before in
-    let q : List ℕ = s .args .q .now in
-    let r = broken (s .args .c .now) q (s .args .r .now) (s .pre .formed) (form-broken q (sym (c .before .enum-told .given .1) ∙ c .before .before .before .form-of .ensures)) in
+    let f = subst (Takes _ _) (c .before .enum-told .given .1) (c .before .before .before .form-of .ensures) in
+    let r = broken (s .args .c .now) (s .args .q .now) (s .args .r .now) (s .pre .formed) (sym (f .asks)) in
     (c .answer .ensures ∙ r .answer, (r .container, r .reply))
 
 same-length : tie.Need-same-length
@@ -89,36 +113,37 @@ same-length-3 c = search needs
 
 returns-3 : tie.Need-returns-3
 returns-3 c =
-    let s = c .before .before .before .before .before .before .before .before .before .before in
-    let q : List ℕ = s .args .q .now in
-    let r : List ℕ = s .args .r .now in
-    let f = form-add q (sym (c .before .before .before .before .enum-told2 .given .1) ∙ c .before .before .before .before .before .before .form-of .ensures) in
-    let d = c .before .before .add .ensures in
-    (d .0 r, (d .1 r, lease-reply (s .args .c .now) q (add (drop 1 q)) (s .pre .formed) (f .1) tt r))
+    let s = c .before .before .before .before .before .before .before .before .before .before .before .before .before in
+    let x = s .args .c .now in
+    let f = subst (Takes _ _) (c .before .before .before .before .before .before .before .lease .given .1) (c .before .before .before .before .before .before .before .before .before .form-of .ensures) in
+    let d = c .before .before .before .add-lease in
+    let e = c .before .before .before .before .bytes .ensures in
+    lease-results x (s .args .q .now) _ (s .pre .formed) (sym (f .asks)) tt (d .result) _ _ _ (d .ensures .0 ∙ ap (λ (l : List ℕ). leaseDone (partsOf x) (add l)) e) (d .ensures .1 ∙ ap (λ (l : List ℕ). leaseContainer x (add l)) e) (c .answer2 .ensures)
 
 same-length-4 : tie.Need-same-length-4
 same-length-4 c = search needs
 
 returns-4 : tie.Need-returns-4
 returns-4 c =
-    let s = c .before .before .before .before .before .before .before .before .before .before in
-    let q : List ℕ = s .args .q .now in
-    let r : List ℕ = s .args .r .now in
-    let f = form-renew q (sym (c .before .before .before .before .enum-told3 .given .1) ∙ c .before .before .before .before .before .before .form-of .ensures) in
-    let d = c .before .before .renew .ensures in
-    (d .0 r, (d .1 r, lease-reply (s .args .c .now) q (renew (take 32 (drop 1 q)) (numberAt 4 33 q)) (s .pre .formed) (f .1) tt r))
+    let s = c .before .before .before .before .before .before .before .before .before .before .before .before .before in
+    let x = s .args .c .now in
+    let f = subst (Takes _ _) (c .before .before .before .before .before .before .before .token .given .1) (c .before .before .before .before .before .before .before .before .before .form-of .ensures) in
+    let d = c .before .before .before .renew-lease in
+    let e = c .before .before .before .before .bytes2 .ensures in
+    let y = c .before .before .before .before .before .before .before .token .given .0 .1 .0 in
+    lease-results x (s .args .q .now) _ (s .pre .formed) (sym (f .asks)) tt (d .result) _ _ _ (d .ensures .0 ∙ ap (λ (l : List ℕ). leaseDone (partsOf x) (renew l y)) e) (d .ensures .1 ∙ ap (λ (l : List ℕ). leaseContainer x (renew l y)) e) (c .answer3 .ensures)
 
 same-length-5 : tie.Need-same-length-5
 same-length-5 c = search needs
 
 returns-5 : tie.Need-returns-5
 returns-5 c =
-    let s = c .before .before .before .before .before .before .before .before .before .before in
-    let q : List ℕ = s .args .q .now in
-    let r : List ℕ = s .args .r .now in
-    let f = form-cancel q (sym (c .before .before .before .before .enum-told4 .given .1) ∙ c .before .before .before .before .before .before .form-of .ensures) in
-    let d = c .before .before .cancel .ensures in
-    (d .0 r, (d .1 r, lease-reply (s .args .c .now) q (cancel (drop 1 q)) (s .pre .formed) (f .1) tt r))
+    let s = c .before .before .before .before .before .before .before .before .before .before .before .before .before in
+    let x = s .args .c .now in
+    let f = subst (Takes _ _) (c .before .before .before .before .before .before .before .token2 .given .1) (c .before .before .before .before .before .before .before .before .before .form-of .ensures) in
+    let d = c .before .before .before .cancel-lease in
+    let e = c .before .before .before .before .bytes3 .ensures in
+    lease-results x (s .args .q .now) _ (s .pre .formed) (sym (f .asks)) tt (d .result) _ _ _ (d .ensures .0 ∙ ap (λ (l : List ℕ). leaseDone (partsOf x) (cancel l)) e) (d .ensures .1 ∙ ap (λ (l : List ℕ). leaseContainer x (cancel l)) e) (c .answer4 .ensures)
 
 same-length-6 : tie.Need-same-length-6
 same-length-6 c = search needs
@@ -129,10 +154,9 @@ same-length-7 c = search needs
 returns-6 : tie.Need-returns-6
 returns-6 c =
     let s = c .before .before .before .before .before .before .before .before .before .before .before .before in
-    let q : List ℕ = s .args .q .now in
-    let f = form-read q _ (sym (c .before .before .before .before .before .before .n .given .1) ∙ c .before .before .before .before .before .before .before .before .form-of .ensures) in
+    let f = subst (Takes _ _) (c .before .before .before .before .before .before .t2 .given .1) (c .before .before .before .before .before .before .before .before .form-of .ensures) in
     let d = c .before .before .read .ensures in
-    (d .0, (read-container (s .args .c .now) q (s .args .r .now) _ (s .pre .formed) (λ i. omega (arith, c .before .before .before .before .before .before .before .before .before .before .before .slice-known .given i)) (f .2), d .1))
+    (d .0, (read-container (s .args .c .now) (s .args .q .now) (s .args .r .now) _ (s .pre .formed) (λ i. omega (arith, c .before .before .before .before .before .before .before .before .before .before .before .slice-known .given i)) (sym (f .asks)), d .1))
 
 pub apply-formed-spec : {M : Type 1} → statement M
 apply-formed-spec =
@@ -143,13 +167,19 @@ apply-formed-spec =
     answer-requires
     enum-known-t
     test-and-write-requires
-    enum-told-2
-    add-requires
-    enum-told-3
-    renew-requires
-    enum-told-4
-    cancel-requires
-    enum-known-n
+    enum-known-lease
+    bytes-requires
+    add-lease-requires
+    answer-requires-2
+    enum-known-token
+    bytes-requires-2
+    renew-lease-requires
+    answer-requires-3
+    enum-known-token-2
+    bytes-requires-3
+    cancel-lease-requires
+    answer-requires-4
+    enum-known-t-2
     read-requires
     returns
     same-length

@@ -1,27 +1,28 @@
--- What the callees measure is what the rules ask for, and the final size is bounded, so that no sum wraps.
+-- The three groups of rows in turn, on what has been measured.
+use mathlib.Core.Path.{_≡_, _∙_}
 use native.Mathlib.Omega.{arith}
-use borrow.Author.Needs.{needs}
+use Rattle.octets.specs.Rows.{firstRow}
 use Rattle.container.proofs.KnownLaws.{lent, known-room, lent-is, lent-small}
-use Rattle.container.proofs.WriteRequestLaws.{inside, Measured, final-bound, judged}
+use Rattle.container.proofs.WriteRequestLaws.{Found, final-bound, admits, fits, admit-verdict, find-verdict, fit-verdict}
+use borrow.Author.Needs.{needs}
 use Rattle.container.proofs.writing.judge.Statement.{statement}
 use Rattle.container.proofs.writing.judge.Tie as tie
 
-measured : (c : tie.After-reply-length)
-    → let a = c .before .before .before .before .before .before .before .args in
-    Measured (a .c .now) (a .q .now) (lent (a .c .now) (a .size)) (a .size) (a .extras) (a .t) (c .before .before .reach .result) (c .reply-length .result) (c .before .cut-size .result)
-measured c =
-    let s = c .before .before .before .before .before .before .before in
-    record {
-      known = s .pre .0;
-      request = s .pre .1;
-      bytes = lent-is (s .pre .0);
-      reached = c .before .before .reach .ensures;
-      reply = c .reply-length .ensures;
-      final = c .before .cut-size .ensures;
-    }
+found : (c : tie.After-cut-size) → let a = c .before .before .before .before .before .before .before .args in Found (a .c .now) (a .q .now) (lent (a .c .now) (c .before .before .before .before .data-end .result)) (a .frame) (a .t) (c .before .before .measure .result) (c .before .reach .result) (c .cut-size .result)
+found c = record {
+  known = c .before .before .before .before .before .before .before .pre .0;
+  parted = c .before .before .before .before .before .before .before .pre .1;
+  bytes = lent-is (c .before .before .before .before .before .before .before .pre .0) (c .before .before .before .before .data-end .ensures);
+  measured = c .before .before .measure .ensures;
+  reached = c .before .reach .ensures;
+  final = c .cut-size .ensures;
+}
 
-add-d : tie.Need-add-d
-add-d c = omega (arith, known-room (c .before .before .pre .0))
+admitted : (c : tie.After-admit) → c .admit .result ≡ firstRow (admits (found (c .before .before)) (c .before .before .before .before .before .before .before .before .before .args .space))
+admitted c = rw (c .before .both .ensures) at (c .admit .ensures)
+
+data-end-requires : tie.Need-data-end-requires
+data-end-requires c κs = omega (arith, known-room (c .before .before .pre .0))
 
 sub-d : tie.Need-sub-d
 sub-d c = search needs
@@ -30,53 +31,70 @@ part-d-start : tie.Need-part-d-start
 part-d-start c = search needs
 
 part-d-end : tie.Need-part-d-end
-part-d-end c = omega (arith, known-room (c .before .before .pre .0))
+part-d-end c = omega (arith, c .data-end .ensures, known-room (c .before .before .before .pre .0))
 
-mul-reach : tie.Need-mul-reach
-mul-reach c = omega (arith, inside (c .before .before .before .before .pre .1) .tests .few)
-
-add-reach : tie.Need-add-reach
-add-reach c = omega (arith, inside (c .before .before .before .before .pre .1) .tests .few)
+measure-requires : tie.Need-measure-requires
+measure-requires c κs = let s = c .before .before .before .before in (s .pre .1 .tests, lent-small (s .pre .0) (c .before .data-end .ensures))
 
 reach-requires : tie.Need-reach-requires
-reach-requires c κs = inside (c .before .before .before .before .pre .1) .writes
+reach-requires c κs = search needs
 
 cut-size-requires : tie.Need-cut-size-requires
 cut-size-requires c κs = search needs
 
-reply-length-requires : tie.Need-reply-length-requires
-reply-length-requires c κs = let s = c .before .before .before .before .before .before in (inside (s .pre .1) .tests, lent-small (s .pre .0))
+both-requires : tie.Need-both-requires
+both-requires c κs = search needs
 
-add-need : tie.Need-add-need
-add-need c = let s = c .before .before .before .before .before .before .before in omega (arith, known-room (s .pre .0), s .pre .1 .short, final-bound (measured c))
-
-mul-need : tie.Need-mul-need
-mul-need c = omega (arith, known-room (c .before .before .before .before .before .before .before .pre .0))
-
-add-need-2 : tie.Need-add-need-2
-add-need-2 c = let s = c .before .before .before .before .before .before .before in omega (arith, known-room (s .pre .0), s .pre .1 .short, final-bound (measured c))
-
-first-row-requires : tie.Need-first-row-requires
-first-row-requires c κs = let s = c .before .before .before .before .before .before .before in (omega (arith, known-room (s .pre .0)), s .pre .1)
+admit-requires : tie.Need-admit-requires
+admit-requires c κs = let s = c .before .before .before .before .before .before .before .before in (omega (arith, known-room (s .pre .0)), s .pre .1 .enabler)
 
 returns : tie.Need-returns
-returns c = judged (measured (c .before)) (c .first-row .result) (c .before .before .before .before .before .before .before .before .args .space) (c .first-row .ensures)
+returns c = admit-verdict (found (c .before .before .before)) (c .before .before .before .before .before .before .before .before .before .before .args .space) _ (admitted (c .before)) (c .if1 .taken)
+
+find-requires : tie.Need-find-requires
+find-requires c κs = search needs
+
+returns-2 : tie.Need-returns-2
+returns-2 c = find-verdict (found (c .before .before .before .before .before)) (c .before .before .before .before .before .before .before .before .before .before .before .before .args .space) _ (admitted (c .before .before .before)) (c .before .before .if1 .left) _ (c .before .find .ensures) (c .if2 .taken)
+
+resized-requires : tie.Need-resized-requires
+resized-requires c κs = search needs
+
+used-requires : tie.Need-used-requires
+used-requires c κs =
+    let s = c .before .before .before .before .before .before .before .before .before .before .before .before .before in
+    let b = final-bound (found (c .before .before .before .before .before .before)) in
+    let r = c .resized .ensures in
+    let k = known-room (s .pre .0) in
+    (omega (arith, s .pre .1 .short), omega arith)
+
+fit-requires : tie.Need-fit-requires
+fit-requires c κs = search needs
+
+returns-3 : tie.Need-returns-3
+returns-3 c =
+    let F = found (c .before .before .before .before .before .before .before .before) in
+    let r = c .before .before .resized .ensures in
+    let g : c .fit .result ≡ firstRow (fits F (c .before .before .before .before .before .before .before .before .before .before .before .before .before .before .before .args .space)) = rw (c .before .used .ensures, r .0, r .1) at (c .fit .ensures) in
+    fit-verdict F (c .before .before .before .before .before .before .before .before .before .before .before .before .before .before .before .args .space) _ (admitted (c .before .before .before .before .before .before)) (c .before .before .before .before .before .if1 .left) _ _ (c .before .before .before .before .find .ensures) (c .before .before .before .if2 .left) g
 
 pub judge-spec : {M : Type 1} → statement M
 judge-spec =
     tie.close
     (tie.spec
-    add-d
+    data-end-requires
     sub-d
     part-d-start
     part-d-end
-    mul-reach
-    add-reach
+    measure-requires
     reach-requires
     cut-size-requires
-    reply-length-requires
-    add-need
-    mul-need
-    add-need-2
-    first-row-requires
-    returns)
+    both-requires
+    admit-requires
+    returns
+    find-requires
+    returns-2
+    resized-requires
+    used-requires
+    fit-requires
+    returns-3)

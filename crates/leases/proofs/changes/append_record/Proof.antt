@@ -1,68 +1,76 @@
 -- The zeros after the used end become a record, and the count says so. Assumes nothing.
-use mathlib.Core.Path.{ap, _∙_}
+use mathlib.Core.Path.{ap, ap₂, _∙_}
 use mathlib.Core.List.{List}
-use Prim.Native.Nat.{ℕ, _+_, _*_, _≤_}
+use Prim.Native.Nat.{ℕ, _+_}
 use native.Mathlib.Omega.{arith}
-use lib.ListN.{length}
 use borrow.Author.Needs.{needs}
 use Rattle.octets.specs.Numbers.{digits}
 use Rattle.octets.specs.Moves.{put}
-use Rattle.format.proofs.WellFormed.{used-is}
-use Rattle.leases.proofs.PlaceLaws.{known-sized}
+use Rattle.octets.specs.Strings.{Octets}
+use Rattle.format.specs.Layout.{countSize}
+use Rattle.format.proofs.WellFormed.{used-is, count-is}
+use Rattle.leases.proofs.PlaceLaws.{known-bounds}
 use Rattle.leases.proofs.ChangeLaws.{put-extra}
 use Rattle.leases.proofs.changes.append_record.Statement.{statement}
 use Rattle.leases.proofs.changes.append_record.Tie as tie
 
--- one more extra has room
-room : (s : tie.Start) → let a = s .args in (472 + a .size + 92 * (a .extras + 1) ≤ length (a .c .now)) × (length (a .c .now) ≤ 65536)
-room s =
-    let a = s .args in
-    (omega (arith, s .pre .1, used-is (a .size) (a .extras + 1)), known-sized (a .c .now) (a .size) (a .extras) (s .pre .0) .most)
-
-add-p : tie.Need-add-p
-add-p c = let h = room (c .before .before) in omega arith
-
-mul-p : tie.Need-mul-p
-mul-p c = let h = room (c .before .before) in omega arith
-
-add-p-2 : tie.Need-add-p-2
-add-p-2 c = let h = room (c .before .before) in omega arith
+used-requires : tie.Need-used-requires
+used-requires c κs = let z = known-bounds _ _ (c .before .before .before .pre .0) in (omega arith, omega arith)
 
 copy-part-requires : tie.Need-copy-part-requires
-copy-part-requires c κs = let h = room (c .before .before .before) in omega arith
+copy-part-requires c κs =
+    let s = c .before .before .before .before in
+    let u = used-is (s .args .frame .size) in
+    omega (arith, c .used .ensures, s .pre .1, u (s .args .frame .extras), u (s .args .frame .extras + 1))
+
+count-at-requires : tie.Need-count-at-requires
+count-at-requires c κs =
+    let s = c .before .before .before .before .before .before .before .before in
+    let z = known-bounds _ _ (s .pre .0) in
+    omega arith
 
 add-put-u32 : tie.Need-add-put-u32
-add-put-u32 c = let h = room (c .before .before .before .before .before .before .before) in omega arith
-
-add-put-u32-2 : tie.Need-add-put-u32-2
-add-put-u32-2 c = let h = room (c .before .before .before .before .before .before .before) in omega arith
+add-put-u32 c =
+    let s = c .before .before .before .before .before .before .before .before .before .before in
+    let z = known-bounds _ _ (s .pre .0) in
+    omega arith
 
 cast-put-u32 : tie.Need-cast-put-u32
-cast-put-u32 c = let h = room (c .before .before .before .before .before .before .before) in omega arith
+cast-put-u32 c =
+    let s = c .before .before .before .before .before .before .before .before .before .before in
+    let z = known-bounds _ _ (s .pre .0) in
+    omega arith
 
 put-u32-requires : tie.Need-put-u32-requires
-put-u32-requires c κs = let h = room (c .before .before .before .before .before .before .before) in omega arith
+put-u32-requires c κs =
+    let s = c .before .before .before .before .before .before .before .before .before .before in
+    let z = known-bounds _ _ (s .pre .0) in
+    omega (arith, c .before .count-at .ensures, count-is (s .args .frame .size))
 
 same-length : tie.Need-same-length
 same-length c = search needs
 
 returns : tie.Need-returns
 returns c =
-    let s = c .before .before .before .before .before .before .before .before .before .before in
+    let m = c .before .before .before .before in
+    let p = m .before .before .before .before in
+    let k = p .before .before .before .before in
+    let s = k .before in
     let a = s .args in
-    c .before .before .put-u32 .ensures ∙ ap (λ (d : List ℕ). put (468 + a .size) (digits 4 (a .extras + 1)) d) (c .before .before .before .before .before .before .copy-part .ensures)
-    ∙ put-extra (a .c .now) (a .size) (a .extras) (s .pre .0) (λ j. omega (arith, c .before .before .before .before .before .before .before .before .before .slice-known .given j)) (a .lease .now) (s .pre .1) (s .pre .2)
+    let o : Octets (a .c .now) = λ j. omega (arith, k .slice-known .given j) in
+    let n : List ℕ = digits countSize (a .frame .extras + 1) in
+    let e = p .copy-part .ensures ∙ ap (λ (i : ℕ). put i (a .lease .now) (a .c .now)) (p .before .used .ensures) in
+    c .before .before .put-u32 .ensures ∙ ap₂ (λ (i : ℕ) (d : List ℕ). put i n d) (m .count-at .ensures) e
+    ∙ put-extra (a .c .now) (a .frame) (s .pre .0) o (a .lease .now) (s .pre .1) (s .pre .2)
 
 pub append-record-spec : {M : Type 1} → statement M
 append-record-spec =
     tie.close
     (tie.spec
-    add-p
-    mul-p
-    add-p-2
+    used-requires
     copy-part-requires
+    count-at-requires
     add-put-u32
-    add-put-u32-2
     cast-put-u32
     put-u32-requires
     same-length

@@ -1,11 +1,18 @@
 -- The answer by where the token stands. Assumes nothing.
 use mathlib.Core.Path.{sym, _∙_}
 use borrow.Author.Needs.{needs}
-use Rattle.format.specs.Container.{renewalOf, expiryOf}
+use Rattle.format.specs.Layout.{renewalAt, renewalOf, expiryOf}
 use Rattle.leases.specs.Places.{hasToken}
-use Rattle.leases.proofs.OperationLaws.{found-inside, add-here, unknown}
+use Rattle.leases.proofs.OperationLaws.{Finds, found-inside, add-here, add-new}
+use Rattle.leases.specs.declared.places.Found.the-variants.{At}
 use Rattle.leases.proofs.operations.add_lease.Statement.{statement}
 use Rattle.leases.proofs.operations.add_lease.Tie as tie
+
+-- where the token stands
+here : (c : tie.After-i) → let a = c .before .before .before .before .before .before .before .args in
+    Finds (a .c .now) (hasToken renewalAt (renewalOf (a .lease .now))) (At (c .i .given .0 .0))
+unfolding renewalOf
+here c = sym (c .i .given .1) ∙ c .before .before .find .ensures
 
 sub-find : tie.Need-sub-find
 sub-find c = search needs
@@ -31,9 +38,11 @@ u32-at-requires c κs = search needs
 extend-requires : tie.Need-extend-requires
 unfolding renewalOf
 extend-requires c κs =
-    let s = c .before .before .before .before .before .before .before .before .before .before .before .before in
-    let a = s .args in
-    (s .pre .0, found-inside (a .c .now) (a .size) (a .extras) (s .pre .0) (hasToken 8 (renewalOf (a .lease .now))) _ (sym (c .before .before .before .before .before .i .given .1) ∙ c .before .before .before .before .before .before .before .find .ensures))
+    let i = c .before .before .before .before .before in
+    let s = i .before .before .before .before .before .before .before in (
+      s .pre .0,
+      found-inside (s .args .c .now) _ (s .pre .0) (hasToken renewalAt (renewalOf (s .args .lease .now))) _ (here i),
+    )
 
 enum-told : tie.Need-enum-told
 enum-told c = search needs
@@ -41,28 +50,32 @@ enum-told c = search needs
 place-new-requires : tie.Need-place-new-requires
 unfolding renewalOf
 place-new-requires c κs =
-    let s = c .before .before .before .before .before .before .before .before in
-    let a = s .args in
-    (s .pre .0, s .pre .1, s .pre .2, unknown (a .c .now) (a .size) (a .extras) (s .pre .0) (a .lease .now) (sym (c .before .enum-told .given .1) ∙ c .before .before .before .find .ensures))
+    let w = c .before .before .before in
+    let s = w .before .before .before .before .before in (
+      s .pre .0,
+      s .pre .1,
+      s .pre .2,
+      add-new (s .args .c .now) _ (s .pre .0) (s .args .lease .now)
+          (sym (c .before .enum-told .given .1) ∙ w .find .ensures),
+    )
 
 same-length : tie.Need-same-length
 same-length c = search needs
 
 returns : tie.Need-returns
-unfolding renewalOf expiryOf
+unfolding expiryOf
 returns c =
-    let s = c .before .before .before .before .before .before .before .before .before .before .before .before .before .before .before in
-    let a = s .args in
-    add-here (a .c .now) (a .size) (a .extras) (s .pre .0) (a .lease .now) _ _ _ _ (sym (c .before .before .before .before .before .before .before .before .i .given .1) ∙ c .before .before .before .before .before .before .before .before .before .before .find .ensures) (c .before .before .before .before .before .count-leases .ensures) (c .before .before .before .u32-at .ensures) (c .before .before .extend .ensures)
+    let n = c .before .before .before .before .before in
+    let i = n .before .before .before in
+    let s = i .before .before .before .before .before .before .before in
+    add-here (s .args .c .now) _ (s .pre .0) (s .args .lease .now) _ _ _ _ (here i) (n .count-leases .ensures)
+    (c .before .before .before .u32-at .ensures) (c .before .before .extend .ensures)
 
 same-length-2 : tie.Need-same-length-2
 same-length-2 c = search needs
 
 returns-2 : tie.Need-returns-2
-returns-2 c =
-    let s = c .before .before .before .before .before .before .before .before .before .before .before in
-    let a = s .args in
-    c .before .before .place-new .ensures
+returns-2 c = c .before .before .place-new .ensures
 
 pub add-lease-spec : {M : Type 1} → statement M
 add-lease-spec =

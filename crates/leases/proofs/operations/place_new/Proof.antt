@@ -1,14 +1,25 @@
 -- The answer by the number of leases, the first empty place, and the room. Assumes nothing.
 use mathlib.Core.Path.{sym, _∙_}
-use Prim.Native.Nat.{_+_}
 use native.Mathlib.Omega.{arith}
 use borrow.Author.Needs.{needs}
-use Rattle.format.proofs.WellFormed.{used-is}
 use Rattle.rules.specs.Leasing.{vacant}
-use Rattle.leases.proofs.PlaceLaws.{known-sized}
-use Rattle.leases.proofs.OperationLaws.{found-inside, place-full, place-vacant, place-nowhere, place-extra}
+use Rattle.leases.proofs.PlaceLaws.{known-bounds}
+use Rattle.leases.proofs.OperationLaws.{Finds, found-inside, place-full, place-vacant, place-nowhere}
+use Rattle.leases.proofs.OperationLaws.{place-extra}
+use Rattle.leases.specs.declared.places.Found.the-variants.{At, Nowhere}
 use Rattle.leases.proofs.operations.place_new.Statement.{statement}
 use Rattle.leases.proofs.operations.place_new.Tie as tie
+
+-- the first empty place, and that there is none
+here : (c : tie.After-i) →
+    let s = c .before .before .before .before .before .before .before .before .before in
+    Finds (s .args .c .now) vacant (At (c .i .given .0 .0))
+here c = sym (c .i .given .1) ∙ c .before .before .find-vacant .ensures
+
+nowhere : (c : tie.After-enum-told) →
+    let s = c .before .before .before .before .before .before .before .before .before in
+    Finds (s .args .c .now) vacant Nowhere
+nowhere c = sym (c .enum-told .given .1) ∙ c .before .before .find-vacant .ensures
 
 count-leases-requires : tie.Need-count-leases-requires
 count-leases-requires c κs = search needs
@@ -19,8 +30,8 @@ same-length c = search needs
 returns : tie.Need-returns
 returns c =
     let s = c .before .before .before .before .before in
-    let a = s .args in
-    place-full (a .c .now) (a .size) (a .extras) (s .pre .0) (a .lease .now) (s .pre .3) (omega (arith, c .before .count-leases .ensures, c .if1 .taken))
+    place-full (s .args .c .now) _ (s .pre .0) (s .args .lease .now) (s .pre .3)
+    (omega (arith, c .before .count-leases .ensures, c .if1 .taken))
 
 find-vacant-requires : tie.Need-find-vacant-requires
 find-vacant-requires c κs = search needs
@@ -30,9 +41,9 @@ enum-known-i c = search needs
 
 put-record-requires : tie.Need-put-record-requires
 put-record-requires c κs =
-    let s = c .before .before .before .before .before .before .before .before .before .before .before in
-    let a = s .args in
-    (s .pre .0, found-inside (a .c .now) (a .size) (a .extras) (s .pre .0) vacant _ (sym (c .before .before .i .given .1) ∙ c .before .before .before .before .find-vacant .ensures), s .pre .1)
+    let i = c .before .before in
+    let s = i .before .before .before .before .before .before .before .before .before in
+    (s .pre .0, found-inside (s .args .c .now) _ (s .pre .0) vacant _ (here i), s .pre .1)
 
 add-t17 : tie.Need-add-t17
 add-t17 c = search needs
@@ -41,31 +52,32 @@ enum-told : tie.Need-enum-told
 enum-told c = search needs
 
 add-if2 : tie.Need-add-if2
-add-if2 c = let z = known-sized _ _ _ (c .before .before .before .before .before .before .before .before .before .pre .0) in omega arith
+add-if2 c =
+    let s = c .before .before .before .before .before .before .before .before .before .before in
+    let z = known-bounds _ _ (s .pre .0) in
+    omega arith
 
-add-if2-2 : tie.Need-add-if2-2
-add-if2-2 c = let z = known-sized _ _ _ (c .before .before .before .before .before .before .before .before .before .pre .0) in omega arith
-
-mul-if2 : tie.Need-mul-if2
-mul-if2 c = let z = known-sized _ _ _ (c .before .before .before .before .before .before .before .before .before .pre .0) in omega arith
-
-add-if2-3 : tie.Need-add-if2-3
-add-if2-3 c = let z = known-sized _ _ _ (c .before .before .before .before .before .before .before .before .before .pre .0) in omega arith
+used-requires : tie.Need-used-requires
+used-requires c κs =
+    let s = c .before .before .before .before .before .before .before .before .before .before in
+    let z = known-bounds _ _ (s .pre .0) in
+    (omega arith, omega arith)
 
 same-length-2 : tie.Need-same-length-2
 same-length-2 c = search needs
 
 returns-2 : tie.Need-returns-2
 returns-2 c =
-    let s = c .before .before .before .before .before .before .before .before .before .before in
-    let a = s .args in
-    place-nowhere (a .c .now) (a .size) (a .extras) (s .pre .0) (a .lease .now) (s .pre .3) _ (sym (c .before .enum-told .given .1) ∙ c .before .before .before .find-vacant .ensures) (omega arith) (c .before .before .before .before .before .before .count-leases .ensures) (omega arith)
+    let w = c .before .before .before in
+    let n = w .before .before .before .before .before in
+    let s = n .before .before .before .before in
+    place-nowhere (s .args .c .now) _ (s .pre .0) (s .args .lease .now) (s .pre .3) _ (omega arith)
+    (n .count-leases .ensures) (nowhere w) (omega (arith, c .before .used .ensures))
 
 append-record-requires : tie.Need-append-record-requires
 append-record-requires c κs =
-    let s = c .before .before .before .before .before .before .before .before .before .before .before in
-    let a = s .args in
-    (s .pre .0, rw (used-is (a .size) (a .extras + 1)) (omega arith), s .pre .1)
+    let s = c .before .before .before .before .before .before .before .before .before .before .before .before .before in
+    (s .pre .0, omega (arith, c .before .before .used .ensures), s .pre .1)
 
 add-t18 : tie.Need-add-t18
 add-t18 c = search needs
@@ -75,18 +87,24 @@ same-length-3 c = search needs
 
 returns-3 : tie.Need-returns-3
 returns-3 c =
-    let s = c .before .before .before .before .before .before .before .before .before .before .before .before .before .before in
-    let a = s .args in
-    place-vacant (a .c .now) (a .size) (a .extras) (s .pre .0) (a .lease .now) (s .pre .3) _ _ _ (sym (c .before .before .before .before .before .i .given .1) ∙ c .before .before .before .before .before .before .before .find-vacant .ensures) (s .pre .2) (omega arith) (c .before .before .before .before .before .before .before .before .before .before .count-leases .ensures) (c .before .before .put-record .ensures)
+    let i = c .before .before .before .before .before in
+    let n = i .before .before .before .before .before in
+    let s = n .before .before .before .before in
+    place-vacant (s .args .c .now) _ (s .pre .0) (s .args .lease .now) (s .pre .3) _ (omega arith)
+    (n .count-leases .ensures) _ _ (here i) (s .pre .2) (c .before .before .put-record .ensures)
 
 same-length-4 : tie.Need-same-length-4
 same-length-4 c = search needs
 
 returns-4 : tie.Need-returns-4
 returns-4 c =
-    let s = c .before .before .before .before .before .before .before .before .before .before .before .before .before .before in
-    let a = s .args in
-    place-extra (a .c .now) (a .size) (a .extras) (s .pre .0) (a .lease .now) (s .pre .3) _ (sym (c .before .before .before .before .before .enum-told .given .1) ∙ c .before .before .before .before .before .before .before .find-vacant .ensures) (omega arith) (c .before .before .before .before .before .before .before .before .before .before .count-leases .ensures) _ (omega arith) (s .pre .2) (c .before .before .append-record .ensures)
+    let u = c .before .before .before .before .before in
+    let w = u .before .before in
+    let n = w .before .before .before .before .before in
+    let s = n .before .before .before .before in
+    place-extra (s .args .c .now) _ (s .pre .0) (s .args .lease .now) (s .pre .3) _ (omega arith)
+    (n .count-leases .ensures) (nowhere w) _ (omega (arith, u .used .ensures)) (s .pre .2)
+    (c .before .before .append-record .ensures)
 
 pub place-new-spec : {M : Type 1} → statement M
 place-new-spec =
@@ -101,9 +119,7 @@ place-new-spec =
     add-t17
     enum-told
     add-if2
-    add-if2-2
-    mul-if2
-    add-if2-3
+    used-requires
     same-length-2
     returns-2
     append-record-requires

@@ -1,10 +1,17 @@
 -- The answer by where the token stands. Assumes nothing.
 use mathlib.Core.Path.{sym, _∙_}
 use borrow.Author.Needs.{needs}
+use Rattle.format.specs.Layout.{renewalAt}
 use Rattle.leases.specs.Places.{hasToken}
-use Rattle.leases.proofs.OperationLaws.{found-inside, renew-here, renew-nowhere}
+use Rattle.leases.proofs.OperationLaws.{Finds, found-inside, renew-here, renew-unknown}
+use Rattle.leases.specs.declared.places.Found.the-variants.{At}
 use Rattle.leases.proofs.operations.renew_lease.Statement.{statement}
 use Rattle.leases.proofs.operations.renew_lease.Tie as tie
+
+-- where the token stands
+here : (c : tie.After-i) → let a = c .before .before .before .before .before .before .args in
+    Finds (a .c .now) (hasToken renewalAt (a .token .now)) (At (c .i .given .0 .0))
+here c = sym (c .i .given .1) ∙ c .before .before .find .ensures
 
 find-requires : tie.Need-find-requires
 find-requires c κs = search needs
@@ -17,9 +24,9 @@ count-leases-requires c κs = search needs
 
 extend-requires : tie.Need-extend-requires
 extend-requires c κs =
-    let s = c .before .before .before .before .before .before .before .before .before .before in
-    let a = s .args in
-    (s .pre .0, found-inside (a .c .now) (a .size) (a .extras) (s .pre .0) (hasToken 8 (a .token .now)) _ (sym (c .before .before .before .before .i .given .1) ∙ c .before .before .before .before .before .before .find .ensures))
+    let i = c .before .before .before .before in
+    let s = i .before .before .before .before .before .before in
+    (s .pre .0, found-inside (s .args .c .now) _ (s .pre .0) (hasToken renewalAt (s .args .token .now)) _ (here i))
 
 enum-told : tie.Need-enum-told
 enum-told c = search needs
@@ -29,18 +36,21 @@ same-length c = search needs
 
 returns : tie.Need-returns
 returns c =
-    let s = c .before .before .before .before .before .before .before .before .before .before .before .before .before in
-    let a = s .args in
-    renew-here (a .c .now) (a .size) (a .extras) (s .pre .0) (a .token .now) (a .expiry) _ _ _ (sym (c .before .before .before .before .before .before .before .i .given .1) ∙ c .before .before .before .before .before .before .before .before .before .find .ensures) (c .before .before .before .before .count-leases .ensures) (c .before .before .extend .ensures)
+    let n = c .before .before .before .before in
+    let i = n .before .before .before in
+    let s = i .before .before .before .before .before .before in
+    renew-here (s .args .c .now) _ (s .pre .0) (s .args .token .now) (s .args .expiry) _ _ _ (here i)
+    (n .count-leases .ensures) (c .before .before .extend .ensures)
 
 same-length-2 : tie.Need-same-length-2
 same-length-2 c = search needs
 
 returns-2 : tie.Need-returns-2
 returns-2 c =
-    let s = c .before .before .before .before .before .before in
-    let a = s .args in
-    renew-nowhere (a .c .now) (a .size) (a .extras) (s .pre .0) (a .token .now) (a .expiry) (sym (c .enum-told .given .1) ∙ c .before .before .find .ensures)
+    let w = c .before .before in
+    let s = w .before .before .before .before in
+    renew-unknown (s .args .c .now) _ (s .pre .0) (s .args .token .now) (s .args .expiry)
+    (sym (c .enum-told .given .1) ∙ w .find .ensures)
 
 pub renew-lease-spec : {M : Type 1} → statement M
 renew-lease-spec =

@@ -6,14 +6,16 @@ use Prim.Native.Nat.{_+_, _*_, _≤_}
 use native.Mathlib.Nat.{zero-add}
 use native.Mathlib.Omega.{arith}
 use lib.ListN.{length}
-use Rattle.format.specs.Container.{records}
+use Rattle.format.specs.Layout.{records, recordSize, leaseLimit}
 use Rattle.rules.specs.Leasing.{present}
 use Rattle.leases.proofs.PlaceLaws.{present-more, present-none}
 use Rattle.leases.proofs.places.count_held.Statement.{statement}
 use Rattle.leases.proofs.places.count_held.Tie as tie
 
 abbrev Inv-loop : tie.InvT-loop
-Inv-loop c from n left₀ at₀ count₀ left at count = (left ≤ 64) × (at + 92 * left ≤ length c) × (count + left ≤ 64) × (present (records n from c) ≡ count + present (records left at c))
+Inv-loop c from n left₀ at₀ count₀ left at count =
+    (left ≤ leaseLimit) × (at + recordSize * left ≤ length c) × (count + left ≤ leaseLimit)
+    × (present (records n from c) ≡ count + present (records left at c))
 
 abbrev μ-loop : tie.MeasureT-loop
 μ-loop c from n left₀ at₀ count₀ left at count = left
@@ -39,11 +41,11 @@ loop-less c = omega arith
 loop-again : tie.Need-loop-again Inv-loop μ-loop
 loop-again c =
     let l = c .before .before .before in
-    let a = l .before .before .args in
-    let h = c .before .is-held .ensures in
+    let more = present-more (l .loop .left) (l .loop .at) (l .before .before .args .c .now) in
+    let h = sym (c .before .is-held .ensures) in
     ⊎-elim
-    (λ w. let m = present-more (l .loop .left) (l .loop .at) (a .c .now) true (omega arith) (sym h ∙ w .0 .taken) in (omega arith, omega arith, omega arith, omega arith))
-    (λ w. let m = present-more (l .loop .left) (l .loop .at) (a .c .now) false (omega arith) (sym h ∙ w .0 .left) in (omega arith, omega arith, omega arith, omega arith))
+    (λ w. let m = more true (omega arith) (h ∙ w .0 .taken) in (omega arith, omega arith, omega arith, omega arith))
+    (λ w. let m = more false (omega arith) (h ∙ w .0 .left) in (omega arith, omega arith, omega arith, omega arith))
     (c .if1 .came)
 
 returns : tie.Need-returns Inv-loop μ-loop

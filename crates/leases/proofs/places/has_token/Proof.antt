@@ -4,6 +4,7 @@ use Prim.Native.Nat.{_+_, _-_}
 use native.Mathlib.Omega.{arith}
 use borrow.Author.Tests.{not-true, not-false}
 use borrow.Author.Needs.{needs}
+use Rattle.format.specs.Layout.{recordSize, secretSize}
 use Rattle.leases.specs.Places.{hasToken}
 use Rattle.leases.proofs.PlaceLaws.{part-part}
 use Rattle.leases.proofs.places.has_token.Statement.{statement}
@@ -14,9 +15,7 @@ is-held-requires c κs = search needs
 
 returns : tie.Need-returns
 unfolding hasToken
-returns c =
-    let a = c .before .before .before .before .args in
-    rw (sym (c .before .is-held .ensures) ∙ not-true _ (c .if1 .taken))
+returns c = rw (sym (c .before .is-held .ensures) ∙ not-true _ (c .if1 .taken))
 
 add-a : tie.Need-add-a
 add-a c = search needs
@@ -39,9 +38,13 @@ same-requires c κs = search needs
 returns-2 : tie.Need-returns-2
 unfolding hasToken
 returns-2 c =
-    let a = c .before .before .before .before .before .before .args in
-    let e : a .p + a .field + 32 - (a .p + a .field) ≡ 32 = omega arith in
-    rw (sym (c .before .before .before .is-held .ensures) ∙ not-false _ (c .before .before .if1 .left), part-part (a .p) 92 (a .field) 32 (a .c .now) (omega arith)) (c .same .ensures ∙ rw e)
+    let w = c .before .before .before in
+    let a = w .before .before .before .args in
+    let e : a .p + a .field + secretSize - (a .p + a .field) ≡ secretSize = omega arith in
+    rw (
+      sym (w .is-held .ensures) ∙ not-false _ (c .before .before .if1 .left),
+      part-part (a .p) recordSize (a .field) secretSize (a .c .now) (omega arith),
+    ) (c .same .ensures ∙ rw e)
 
 pub has-token-spec : {M : Type 1} → statement M
 has-token-spec =

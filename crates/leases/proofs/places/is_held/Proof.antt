@@ -1,6 +1,6 @@
 -- The owner of a place is the number in its first four bytes. Assumes nothing.
 use borrow.Author.Needs.{needs}
-use Rattle.format.proofs.JudgedLaws.{held-at}
+use Rattle.format.proofs.JudgingLaws.{held-at}
 use Rattle.leases.proofs.places.is_held.Statement.{statement}
 use Rattle.leases.proofs.places.is_held.Tie as tie
 

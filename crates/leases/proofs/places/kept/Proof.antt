@@ -1,9 +1,9 @@
--- The invariant: the places beyond `left` are empty, so the tail without them is that of the first `left`. Assumes nothing.
+-- The invariant: the places beyond `left` are empty, so what is kept is kept of the first `left`. Assumes nothing.
 use mathlib.Core.Path.{_≡_, refl, sym, ap, _∙_}
 use Prim.Native.Nat.{_≤_}
 use native.Mathlib.Omega.{arith}
 use lib.ListN.{length}
-use Rattle.format.specs.Container.{records}
+use Rattle.format.specs.Layout.{records}
 use Rattle.rules.specs.Leasing.{trim}
 use Rattle.leases.proofs.PlaceLaws.{kept-all, kept-fewer, kept-none}
 use Rattle.leases.proofs.places.kept.Statement.{statement}
@@ -34,7 +34,8 @@ returns : tie.Need-returns Inv-loop μ-loop
 returns c =
     let l = c .before .before .before in
     let a = l .before .before .args in
-    sym (ap length (l .loop .inv .1) ∙ kept-all (l .loop .left) (a .from) (a .c .now) (omega arith) (sym (c .before .is-held .ensures) ∙ c .if1 .taken))
+    let h = sym (c .before .is-held .ensures) ∙ c .if1 .taken in
+    sym (ap length (l .loop .inv .1) ∙ kept-all (l .loop .left) (a .from) (a .c .now) (omega arith) h)
 
 sub-left : tie.Need-sub-left Inv-loop μ-loop
 sub-left c = omega arith
@@ -46,7 +47,8 @@ loop-again : tie.Need-loop-again Inv-loop μ-loop
 loop-again c =
     let l = c .before .before .before in
     let a = l .before .before .args in
-    (omega arith, l .loop .inv .1 ∙ kept-fewer (l .loop .left) (a .from) (a .c .now) (omega arith) (sym (c .before .is-held .ensures) ∙ c .if1 .left))
+    let h = sym (c .before .is-held .ensures) ∙ c .if1 .left in
+    (omega arith, l .loop .inv .1 ∙ kept-fewer (l .loop .left) (a .from) (a .c .now) (omega arith) h)
 
 returns-2 : tie.Need-returns-2 Inv-loop μ-loop
 returns-2 c =

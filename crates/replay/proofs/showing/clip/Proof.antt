@@ -5,11 +5,11 @@ use borrow.Author.Needs.{needs}
 use Rattle.replay.proofs.showing.clip.Statement.{statement}
 use Rattle.replay.proofs.showing.clip.Tie as tie
 
-least-requires : tie.Need-least-requires
-least-requires c κs = search needs
+lesser-requires : tie.Need-lesser-requires
+lesser-requires c κs = search needs
 
 returns : tie.Need-returns
-returns c = (c .least .ensures .1, sym (length-take-le _ _ (c .least .ensures .1)))
+returns c = (c .lesser .ensures .1, sym (length-take-le _ _ (c .lesser .ensures .1)))
 
 pub clip-spec : {M : Type 1} → statement M
-clip-spec = tie.close (tie.spec least-requires returns)
+clip-spec = tie.close (tie.spec lesser-requires returns)

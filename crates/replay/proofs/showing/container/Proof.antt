@@ -1,6 +1,7 @@
 -- A well-formed container has its parts inside.
-use mathlib.Core.Path.{sym, _∙_}
-use Rattle.format.proofs.JudgedLaws.{judged-room}
+use mathlib.Core.Path.{subst}
+use Rattle.format.specs.Judging.{Judges}
+use Rattle.format.proofs.JudgingLaws.{judged-formed}
 use borrow.Author.Needs.{needs}
 use Rattle.replay.proofs.showing.container.Statement.{statement}
 use Rattle.replay.proofs.showing.container.Tie as tie
@@ -26,11 +27,11 @@ slice-aggregate-write-2 c = search needs
 write-requires-2 : tie.Need-write-requires-2
 write-requires-2 c κs = search needs
 
-enum-known-size : tie.Need-enum-known-size
-enum-known-size c = search needs
+enum-known-frame : tie.Need-enum-known-frame
+enum-known-frame c = search needs
 
 parts-requires : tie.Need-parts-requires
-parts-requires c κs = judged-room _ _ _ (sym (c .before .size .given .1) ∙ c .before .before .before .judge .ensures)
+parts-requires c κs = judged-formed _ _ (subst (Judges _) (c .before .frame .given .1) (c .before .before .before .judge .ensures))
 
 returns : tie.Need-returns
 returns c = search needs
@@ -52,7 +53,7 @@ container-spec =
     enum-told-2
     slice-aggregate-write-2
     write-requires-2
-    enum-known-size
+    enum-known-frame
     parts-requires
     returns
     returns-2

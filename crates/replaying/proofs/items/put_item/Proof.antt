@@ -6,9 +6,11 @@ use Prim.Native.Nat.{_-_}
 use lib.ListN.{length, take, drop, replicate, length-replicate}
 use Rattle.octets.specs.Numbers.{digits}
 use Rattle.octets.proofs.NumberLaws.{length-digits}
-use Rattle.replaying.specs.declared.items.Item.the-variants.{Text}
 use Rattle.replaying.specs.Items.{inside}
-use Rattle.replaying.proofs.ItemLaws.{line-end, line-repeat, line-number, line-text, right-end, right-repeat, right-number, right-text, right-bad, text-length, full-repeat, full-number, full-text}
+use Rattle.replaying.proofs.ItemLaws.{line-end, line-repeat, line-number, line-text, right-end, right-repeat}
+use Rattle.replaying.proofs.ItemLaws.{right-number, right-text, right-bad, text-length, full-repeat}
+use Rattle.replaying.proofs.ItemLaws.{full-number, full-text}
+use Rattle.replaying.specs.declared.items.Item.the-variants.{Text}
 use borrow.Author.Needs.{needs}
 use Rattle.replaying.proofs.items.put_item.Statement.{statement}
 use Rattle.replaying.proofs.items.put_item.Tie as tie

@@ -22,7 +22,8 @@ returns : tie.Need-returns
 returns c =
     let a = c .before .before .args in
     let d = a .d .now in
-    rw (drop-of-length-le d {i = length d} (omega arith), drop-of-length-le d {i = a .position} (omega arith)) (take-nil (length d - length d) ∙ sym (take-nil (a .n)))
+    rw (drop-of-length-le d {i = length d} (omega arith), drop-of-length-le d {i = a .position} (omega arith))
+    (take-nil (length d - length d) ∙ sym (take-nil (a .n)))
 
 sub-if2 : tie.Need-sub-if2
 sub-if2 c = search needs

@@ -1,116 +1,140 @@
--- Each early return refutes one fact of a test-and-write; at the end all of them hold. The sums are small, so that nothing wraps.
-use mathlib.Core.Path.{_≡_, sym, _∙_}
+-- Each early return refutes one fact of a test-and-write; at the end all of them hold. The sums are small, so that nothing
+-- wraps.
+-- What each callee has told.
+-- How large the two sums are.
+use mathlib.Core.Path.{_≡_, sym, ap, _∙_}
 use mathlib.Core.Bool.{false≢true}
-use Prim.Native.Nat.{_+_, _*_}
 use native.Mathlib.Omega.{arith}
+use Prim.Native.Nat.{_*_, _≤_}
 use borrow.Author.Tests.{not-true, not-false}
 use Rattle.octets.specs.Strings.{Octets}
-use Rattle.rules.specs.Requests.{testEntryOk, allFrom, testCount, cutFlag, newLength, testWriteEnd, cutOk, testsAt}
-use Rattle.requests.proofs.CursorLaws.{HeaderIs, header-is}
-use Rattle.requests.proofs.FormLaws.{specimens-most, bodies-most, table-places, table-ends, table-made, form-table, form-no-table}
+use Rattle.rules.specs.Requests.{testsAt, writesAt, testCount, writeCount, cutFlag, newLength, cutOk}
+use Rattle.requests.specs.declared.cursors.Body.{Body}
+use Rattle.requests.specs.declared.forms.TestsPassed.{TestsPassed}
+use Rattle.requests.specs.declared.forms.WritesPassed.{WritesPassed}
+use Rattle.requests.proofs.FormLaws.{HeaderIs, header-is, Found, no-table, table-places, specimens-most, bodies-most}
+use Rattle.requests.proofs.FormLaws.{tests-at, writes-at, specimens-at, ends-at, entries-at, taken}
 use borrow.Author.Needs.{needs}
 use Rattle.requests.proofs.forms.test_write_form.Statement.{statement}
 use Rattle.requests.proofs.forms.test_write_form.Tie as tie
 
--- What each callee has told.
 header : (c : tie.After-header) → HeaderIs (c .before .before .before .args .q .now) (c .header .result)
-header c = header-is (c .before .before .before .args .q .now) (c .header .result) (c .header .ensures)
+header c = header-is _ (c .before .before .before .args .at .at) _ (c .before .before .before .pre .0) (c .header .ensures)
 
 cut : (c : tie.After-cut-ok) → c .cut-ok .result ≡ cutOk (cutFlag (c .before .before .before .before .before .before .args .q .now)) (newLength (c .before .before .before .before .before .before .args .q .now))
 cut c = c .cut-ok .ensures ∙ rw (header (c .before .before .before) .flag, header (c .before .before .before) .new)
 
-entries : (c : tie.After-tests-ok) → c .tests-ok .result ≡ allFrom (testEntryOk (c .before .before .before .before .before .before .before .before .before .args .q .now)) 12 (testCount (c .before .before .before .before .before .before .before .before .before .args .q .now)) testsAt
-entries c = c .tests-ok .ensures ∙ rw (header (c .before .before .before .before .before .before) .tests)
+enabler-next : (c : tie.After-body) → c .body .result .next .at ≡ testsAt
+enabler-next c = ap (λ (b : Body). b .next .at) (c .body .ensures) ∙ rw (header (c .before .before .before .before .before .before) .next)
 
-ends : (c : tie.After-bodies-length)
-    → testWriteEnd (c .before .before .before .before .before .before .before .before .before .before .before .before .args .q .now) ≡ 40 + 12 * c .before .before .before .before .before .before .before .before .before .header .result .tests + 8 * c .before .before .before .before .before .before .before .before .before .header .result .writes + c .before .specimens-length .result + c .bodies-length .result
-ends c =
-    table-ends (c .before .before .before .before .before .before .before .before .before .before .before .before .args .q .now) (c .before .before .before .before .before .before .before .before .before .header .result) (header (c .before .before .before .before .before .before .before .before .before)) (c .before .specimens-length .result) (c .before .specimens-length .ensures) (c .bodies-length .result) (c .bodies-length .ensures)
+tests-next : (c : tie.After-pass-tests) → c .pass-tests .result .next .at ≡ writesAt (c .before .before .before .before .before .before .before .before .before .before .args .q .now)
+unfolding writesAt
+tests-next c = ap (λ (t : TestsPassed). t .next .at) (c .pass-tests .ensures) ∙ rw (enabler-next (c .before), header (c .before .before .before .before .before .before .before) .tests)
+
+found : (c : tie.After-pass-writes) → Found (c .before .before .before .before .before .before .before .before .before .before .before .before .before .args .q .now) (c .before .before .before .before .before .before .before .before .before .before .header .result) (c .before .before .before .before .body .result) (c .before .before .before .pass-tests .result) (c .pass-writes .result)
+found c = record {
+  header = header (c .before .before .before .before .before .before .before .before .before .before);
+  enabler = c .before .before .before .before .body .ensures;
+  tests = c .before .before .before .pass-tests .ensures;
+  writes = c .pass-writes .ensures;
+}
+
+octets : (c : tie.After-pass-writes) → Octets (c .before .before .before .before .before .before .before .before .before .before .before .before .before .args .q .now)
+octets c = λ i. omega (arith, c .before .before .before .before .before .before .before .before .before .before .before .before .shared-slice-known .given i)
+
+small : (c : tie.After-pass-writes) → (c .before .before .before .pass-tests .result .length ≤ 65536 * 16) × (c .pass-writes .result .length ≤ 4294967296 * 16)
+small c =
+    let q = c .before .before .before .before .before .before .before .before .before .before .before .before .before .args .q .now in
+    let x = header (c .before .before .before .before .before .before .before .before .before .before) in
+    let t = ap (λ (y : TestsPassed). y .length) (tests-at (found c)) in
+    let w = ap (λ (y : WritesPassed). y .length) (writes-at (found c)) in
+    (omega (arith, specimens-most q (octets c) (testCount q) testsAt), omega (arith, bodies-most q (octets c) (writeCount q) (writesAt q)))
 
 returns : tie.Need-returns
 returns c =
     let q = c .before .before .args .q .now in
     let m = table-places q in
-    form-no-table q (λ h. omega arith)
+    no-table q (λ h. omega arith)
 
 header-requires : tie.Need-header-requires
 header-requires c κs = search needs
 
 returns-2 : tie.Need-returns-2
-returns-2 c = let x = header (c .before) in form-no-table (c .before .before .before .before .args .q .now) (λ h. omega arith)
+returns-2 c = let x = header (c .before) in no-table _ (λ h. omega arith)
 
 returns-3 : tie.Need-returns-3
-returns-3 c = let x = header (c .before .before) in form-no-table (c .before .before .before .before .before .args .q .now) (λ h. omega arith)
+returns-3 c = let x = header (c .before .before) in no-table _ (λ h. omega arith)
 
 cut-ok-requires : tie.Need-cut-ok-requires
 cut-ok-requires c κs = search needs
 
 returns-4 : tie.Need-returns-4
-returns-4 c = form-no-table (c .before .before .before .before .before .before .before .args .q .now) (λ h. false≢true (sym (not-true _ (c .if4 .taken)) ∙ cut (c .before) ∙ h .cut))
+returns-4 c = no-table _ (λ h. false≢true (sym (not-true _ (c .if4 .taken)) ∙ cut (c .before) ∙ h .cut))
 
-mul-table : tie.Need-mul-table
-mul-table c = search needs
+mul-if5 : tie.Need-mul-if5
+mul-if5 c = search needs
 
-add-table : tie.Need-add-table
-add-table c = search needs
+add-if5 : tie.Need-add-if5
+add-if5 c = search needs
 
-mul-specimens : tie.Need-mul-specimens
-mul-specimens c = search needs
+mul-if5-2 : tie.Need-mul-if5-2
+mul-if5-2 c = search needs
 
-add-specimens : tie.Need-add-specimens
-add-specimens c = search needs
+add-if5-2 : tie.Need-add-if5-2
+add-if5-2 c = search needs
 
 returns-5 : tie.Need-returns-5
 returns-5 c =
     let q = c .before .before .before .before .before .before .before .before .args .q .now in
     let x = header (c .before .before .before .before .before) in
     let m = table-places q in
-    form-no-table q (λ h. omega arith)
+    no-table q (λ h. omega arith)
 
-tests-ok-requires : tie.Need-tests-ok-requires
-tests-ok-requires c κs = search needs
+body-requires : tie.Need-body-requires
+body-requires c κs = let x = header (c .before .before .before .before .before) in omega arith
+
+pass-tests-requires : tie.Need-pass-tests-requires
+pass-tests-requires c κs = let x = header (c .before .before .before .before .before .before) in (omega (arith, enabler-next c), omega arith)
 
 returns-6 : tie.Need-returns-6
-returns-6 c = form-no-table (c .before .before .before .before .before .before .before .before .before .before .args .q .now) (λ h. false≢true (sym (not-true _ (c .if6 .taken)) ∙ entries (c .before) ∙ h .entries))
+returns-6 c =
+    let e = rw (enabler-next (c .before .before .before), header (c .before .before .before .before .before .before .before .before .before) .tests) at (ap (λ (t : TestsPassed). t .good) (c .before .before .pass-tests .ensures)) in
+    no-table _ (λ h. false≢true (sym (not-true _ (c .if6 .taken)) ∙ e ∙ h .entries))
 
-specimens-length-requires : tie.Need-specimens-length-requires
-specimens-length-requires c κs = search needs
-
-add-bodies : tie.Need-add-bodies
-add-bodies c =
-    let q = c .before .before .before .before .before .before .before .before .before .before .before .args .q .now in
-    let s = specimens-most q (λ i. omega (arith, c .before .before .before .before .before .before .before .before .before .before .shared-slice-known .given i)) (c .before .before .before .before .before .before .before .before .header .result .tests) testsAt in
-    omega (arith, c .specimens-length .ensures)
-
-bodies-length-requires : tie.Need-bodies-length-requires
-bodies-length-requires c κs = search needs
+pass-writes-requires : tie.Need-pass-writes-requires
+pass-writes-requires c κs =
+    let x = header (c .before .before .before .before .before .before .before .before .before) in
+    let m = table-places (c .before .before .before .before .before .before .before .before .before .before .before .before .args .q .now) in
+    (omega (arith, tests-next (c .before .before)), omega arith)
 
 add-if7 : tie.Need-add-if7
-add-if7 c =
-    let q = c .before .before .before .before .before .before .before .before .before .before .before .before .args .q .now in
-    let h = c .before .before .before .before .before .before .before .before .before .header .result in
-    let o : Octets q = λ i. omega (arith, c .before .before .before .before .before .before .before .before .before .before .before .shared-slice-known .given i) in
-    let s = specimens-most q o (h .tests) testsAt in
-    let b = bodies-most q o (h .writes) (40 + 12 * h .tests) in
-    omega (arith, c .before .specimens-length .ensures, c .bodies-length .ensures)
+add-if7 c = let m = table-places (c .before .before .before .before .before .before .before .before .before .before .before .before .before .before .before .before .args .q .now) in let x = header (c .before .before .before .before .before .before .before .before .before .before .before .before .before) in omega (arith, specimens-at (found (c .before .before .before)), small (c .before .before .before))
+
+add-if7-2 : tie.Need-add-if7-2
+add-if7-2 c = let m = table-places (c .before .before .before .before .before .before .before .before .before .before .before .before .before .before .before .before .before .args .q .now) in let x = header (c .before .before .before .before .before .before .before .before .before .before .before .before .before .before) in omega (arith, specimens-at (found (c .before .before .before .before)), small (c .before .before .before .before))
 
 returns-7 : tie.Need-returns-7
-returns-7 c = form-no-table (c .before .before .before .before .before .before .before .before .before .before .before .before .before .args .q .now) (λ h. c .if7 .taken (sym (ends (c .before)) ∙ h .ends))
+returns-7 c = no-table _ (λ h. c .if7 .taken (sym (ends-at (found (c .before .before .before .before .before))) ∙ h .ends))
+
+body-requires-2 : tie.Need-body-requires-2
+body-requires-2 c κs = search needs
+
+found-requires : tie.Need-found-requires
+found-requires c κs = search needs
 
 returns-8 : tie.Need-returns-8
 returns-8 c =
-    let q = c .before .before .before .before .before .before .before .before .before .before .before .before .before .before .args .q .now in
-    let x = header (c .before .before .before .before .before .before .before .before .before .before .before) in
-    let t = table-made q (c .before .before .before .before .before .before .before .before .before .before .before .header .result) x (c .before .before .before .specimens-length .result) (c .before .before .before .specimens-length .ensures) in
-    form-table q _
+    let F = found (c .before .before .before .before .before .before .before .before) in
+    let x = header (c .before .before .before .before .before .before .before .before .before .before .before .before .before .before .before .before .before .before) in
+    taken F _ _ (c .before .before .body2 .ensures) (c .found .ensures)
     (record {
-      tests = omega arith;
-      writes = omega arith;
-      cut = sym (cut (c .before .before .before .before .before .before .before .before)) ∙ not-false _ (c .before .before .before .before .before .before .before .if4 .left);
-      ends = ends (c .before .before) ∙ c .before .if7 .left;
-      entries = sym (entries (c .before .before .before .before .before)) ∙ not-false _ (c .before .before .before .before .if6 .left);
+      tests = omega (arith, c .before .before .before .before .before .before .before .before .before .before .before .before .before .before .before .before .before .if2 .left, x .tests);
+      writes = omega (arith, c .before .before .before .before .before .before .before .before .before .before .before .before .before .before .before .before .if3 .left, x .writes);
+      cut = sym (cut (c .before .before .before .before .before .before .before .before .before .before .before .before .before .before .before)) ∙ not-false _ (c .before .before .before .before .before .before .before .before .before .before .before .before .before .before .if4 .left);
+      ends = ends-at F ∙ c .before .before .before .if7 .left;
+      entries = sym (entries-at F) ∙ not-false _ (c .before .before .before .before .before .before .before .before .before .if6 .left);
     })
-    t
+    (c .before .before .before .before .before .before .before .before .before .before .before .before .before .before .before .before .before .before .before .before .before .pre .1)
 
 pub test-write-form-spec : {M : Type 1} → statement M
 test-write-form-spec =
@@ -122,16 +146,18 @@ test-write-form-spec =
     returns-3
     cut-ok-requires
     returns-4
-    mul-table
-    add-table
-    mul-specimens
-    add-specimens
+    mul-if5
+    add-if5
+    mul-if5-2
+    add-if5-2
     returns-5
-    tests-ok-requires
+    body-requires
+    pass-tests-requires
     returns-6
-    specimens-length-requires
-    add-bodies
-    bodies-length-requires
+    pass-writes-requires
     add-if7
+    add-if7-2
     returns-7
+    body-requires-2
+    found-requires
     returns-8)

@@ -3,13 +3,14 @@ use mathlib.Core.Path.{_≡_, refl, sym, _∙_}
 use Prim.Native.Nat.{_≤_, _+_, _*_}
 use native.Mathlib.Omega.{arith}
 use lib.ListN.{length}
-use Rattle.shares.specs.Share.{nodesFrom, nodesOk}
+use Rattle.shares.specs.Nodes.{entrySize, nodesFrom, nodesOk}
 use Rattle.shares.proofs.NodeLaws.{nodes-high, nodes-again, nodes-more, nodes-end}
 use Rattle.shares.proofs.nodes.nodes_ok.Statement.{statement}
 use Rattle.shares.proofs.nodes.nodes_ok.Tie as tie
 
 abbrev Inv-loop : tie.InvT-loop
-Inv-loop s top n p left₀ at₀ left at = (at + 34 * left ≤ length s) × (nodesOk top (nodesFrom n p s) ≡ nodesOk top (nodesFrom left at s))
+Inv-loop s top n p left₀ at₀ left at =
+    (at + entrySize * left ≤ length s) × (nodesOk top (nodesFrom n p s) ≡ nodesOk top (nodesFrom left at s))
 
 abbrev μ-loop : tie.MeasureT-loop
 μ-loop s top n p left₀ at₀ left at = left
@@ -26,7 +27,8 @@ cast-if1 c = omega arith
 returns : tie.Need-returns Inv-loop μ-loop
 returns c =
     let u = c .before in
-    sym (u .before .before .loop .inv .1 ∙ nodes-high _ _ _ _ _ (u .before .loop-test .taken) (u .u16-at .ensures) (c .if1 .taken))
+    let l = u .before .before .loop .inv in
+    sym (l .1 ∙ nodes-high _ _ _ _ _ (u .before .loop-test .taken) (u .u16-at .ensures) (c .if1 .taken))
 
 sub-left : tie.Need-sub-left Inv-loop μ-loop
 sub-left c = omega arith
@@ -40,7 +42,10 @@ occurs-requires c κs = omega arith
 returns-2 : tie.Need-returns-2 Inv-loop μ-loop
 returns-2 c =
     let u = c .before .before .before in
-    sym (u .before .before .loop .inv .1 ∙ nodes-again _ _ _ _ _ (u .before .loop-test .taken) (u .u16-at .ensures) (c .before .before .if1 .left) (sym (c .before .occurs .ensures) ∙ c .if2 .taken))
+    let l = u .before .before .loop .inv in
+    let o = sym (c .before .occurs .ensures) ∙ c .if2 .taken in
+    let b = c .before .before .if1 .left in
+    sym (l .1 ∙ nodes-again _ _ _ _ _ (u .before .loop-test .taken) (u .u16-at .ensures) b o)
 
 loop-less : tie.Need-loop-less Inv-loop μ-loop
 loop-less c = omega arith
@@ -48,7 +53,10 @@ loop-less c = omega arith
 loop-again : tie.Need-loop-again Inv-loop μ-loop
 loop-again c =
     let u = c .before .before .before in
-    (omega arith, u .before .before .loop .inv .1 ∙ nodes-more _ _ _ _ _ (u .before .loop-test .taken) (u .u16-at .ensures) (c .before .before .if1 .left) (sym (c .before .occurs .ensures) ∙ c .if2 .left))
+    let l = u .before .before .loop .inv in
+    let o = sym (c .before .occurs .ensures) ∙ c .if2 .left in
+    let b = c .before .before .if1 .left in
+    (omega arith, l .1 ∙ nodes-more _ _ _ _ _ (u .before .loop-test .taken) (u .u16-at .ensures) b o)
 
 returns-3 : tie.Need-returns-3 Inv-loop μ-loop
 returns-3 c = sym (c .before .loop .inv .1 ∙ nodes-end _ _ _ _ (c .loop-test .left))

@@ -1,15 +1,18 @@
 -- What the node numbers from the first on say is what those that are left say; the measure is how many are left.
+use lib.Dec.{eqb}
 use mathlib.Core.Path.{_≡_, refl, sym, _∙_}
 use Prim.Native.Nat.{_≤_, _+_, _*_}
 use native.Mathlib.Omega.{arith}
 use lib.ListN.{length}
-use Rattle.shares.specs.Share.{nodesFrom, occurs}
+use Rattle.shares.specs.Nodes.{entrySize, nodesFrom}
 use Rattle.shares.proofs.NodeLaws.{occurs-hit, occurs-miss, occurs-none}
+use Rattle.octets.specs.Lists.{anyOf}
 use Rattle.shares.proofs.nodes.occurs.Statement.{statement}
 use Rattle.shares.proofs.nodes.occurs.Tie as tie
 
 abbrev Inv-loop : tie.InvT-loop
-Inv-loop s x n p left₀ at₀ left at = (at + 34 * left ≤ length s) × (occurs x (nodesFrom n p s) ≡ occurs x (nodesFrom left at s))
+Inv-loop s x n p left₀ at₀ left at =
+    (at + entrySize * left ≤ length s) × (anyOf (eqb x) (nodesFrom n p s) ≡ anyOf (eqb x) (nodesFrom left at s))
 
 abbrev μ-loop : tie.MeasureT-loop
 μ-loop s x n p left₀ at₀ left at = left
@@ -23,7 +26,8 @@ u16-at-requires c κs = omega arith
 returns : tie.Need-returns Inv-loop μ-loop
 returns c =
     let l = c .before .before .before in
-    sym (l .loop .inv .1 ∙ occurs-hit _ _ _ _ (c .before .before .loop-test .taken) (c .if1 .taken ∙ c .before .u16-at .ensures))
+    let e = c .if1 .taken ∙ c .before .u16-at .ensures in
+    sym (l .loop .inv .1 ∙ occurs-hit _ _ _ _ (c .before .before .loop-test .taken) e)
 
 sub-left : tie.Need-sub-left Inv-loop μ-loop
 sub-left c = omega arith
@@ -37,7 +41,9 @@ loop-less c = omega arith
 loop-again : tie.Need-loop-again Inv-loop μ-loop
 loop-again c =
     let l = c .before .before .before in
-    (omega arith, l .loop .inv .1 ∙ occurs-miss _ _ _ _ (c .before .before .loop-test .taken) (λ e. c .if1 .left (e ∙ sym (c .before .u16-at .ensures))))
+    let u = c .before in
+    let m = occurs-miss _ _ _ _ (u .before .loop-test .taken) (λ e. c .if1 .left (e ∙ sym (u .u16-at .ensures))) in
+    (omega arith, l .loop .inv .1 ∙ m)
 
 returns-2 : tie.Need-returns-2 Inv-loop μ-loop
 returns-2 c = sym (c .before .loop .inv .1 ∙ occurs-none _ _ _ _ (c .loop-test .left))

@@ -1,9 +1,10 @@
--- The leaves are 2^depth, and the definition has as much fuel left as the depth lacks of 8; the measure is what the leaves lack of the shares.
+-- The leaves are 2^depth, and the definition has as much fuel left as the depth lacks of 8.
+-- The measure is what the leaves lack of the shares.
 use mathlib.Core.Path.{_≡_, refl, sym, ap, _∙_}
 use Prim.Native.Nat.{ℕ, _*_, _≤_, _-_}
 use native.Mathlib.Omega.{arith}
-use Rattle.shares.specs.Share.{depthFrom, depth, power}
-use Rattle.shares.proofs.ShareLaws.{power-next, depth-stop, depth-small, depth-turn}
+use Rattle.shares.specs.Nodes.{depthFrom, depth, power}
+use Rattle.shares.proofs.NodeLaws.{power-next, depth-stop, depth-small, depth-turn}
 use Rattle.shares.proofs.nodes.tree_over.Statement.{statement}
 use Rattle.shares.proofs.nodes.tree_over.Tie as tie
 
@@ -32,7 +33,8 @@ loop-again : tie.Need-loop-again Inv-loop μ-loop
 loop-again c =
     let l = c .before .loop in
     let i = l .inv in
-    (omega arith, ap (λ (n : ℕ). 2 * n) (i .1) ∙ sym (power-next (l .depth)), i .2 ∙ depth-turn (l .depth) (l .leaves) _ (i .1) (omega arith) (c .loop-test .taken))
+    let d = depth-turn (l .depth) (l .leaves) _ (i .1) (omega arith) (c .loop-test .taken) in
+    (omega arith, ap (λ (n : ℕ). 2 * n) (i .1) ∙ sym (power-next (l .depth)), i .2 ∙ d)
 
 returns : tie.Need-returns Inv-loop μ-loop
 returns c =

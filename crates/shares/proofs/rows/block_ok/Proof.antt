@@ -1,5 +1,5 @@
 -- The four fields, as they were read.
-use Rattle.shares.specs.Steps.{blockOk}
+use Rattle.shares.specs.Rows.{blockOk}
 use borrow.Author.Needs.{needs}
 use Rattle.shares.proofs.rows.block_ok.Statement.{statement}
 use Rattle.shares.proofs.rows.block_ok.Tie as tie
@@ -29,7 +29,12 @@ returns : tie.Need-returns
 unfolding blockOk
 returns c =
     let d = c .before .before in
-    rw (d .before .private-key-at .ensures, d .share-data-at .ensures, c .before .segment-size .ensures, c .required .ensures)
+    rw (
+      d .before .private-key-at .ensures,
+      d .share-data-at .ensures,
+      c .before .segment-size .ensures,
+      c .required .ensures,
+    )
 
 pub block-ok-spec : {M : Type 1} → statement M
 block-ok-spec =

@@ -2,13 +2,16 @@
 use native.Mathlib.Omega.{arith}
 use Prim.Native.Nat.{_≤_}
 use borrow.Author.Tests.{eq-eqb, ne-eqb}
-use Rattle.shares.specs.Share.{chainOk}
-use Rattle.shares.proofs.ShareLaws.{depth-bounds}
+use Rattle.shares.specs.Rows.{chainOk}
+use Rattle.shares.proofs.NodeLaws.{depth-bounds}
 use borrow.Author.Needs.{needs}
 use Rattle.shares.proofs.rows.chain_ok.Statement.{statement}
 use Rattle.shares.proofs.rows.chain_ok.Tie as tie
 
-small : (c : tie.After-tree-over) → (c .tree-over .result .depth ≤ 8) × (1 ≤ c .tree-over .result .leaves) × (c .tree-over .result .leaves ≤ 256)
+small : (c : tie.After-tree-over)
+    → (c .tree-over .result .depth ≤ 8)
+    × (1 ≤ c .tree-over .result .leaves)
+    × (c .tree-over .result .leaves ≤ 256)
 small c =
     let b = depth-bounds (c .before .total .result) (omega arith) in
     let e = c .tree-over .ensures in
@@ -37,7 +40,13 @@ unfolding chainOk
 returns c =
     let t = c .before .before in
     let o = t .before .before in
-    rw (← t .tree-at .ensures, ← t .before .chain-at .ensures, ← o .before .total .ensures, ← o .tree-over .ensures .0, ne-eqb _ _ (c .if1 .taken))
+    rw (
+      ← t .tree-at .ensures,
+      ← t .before .chain-at .ensures,
+      ← o .before .total .ensures,
+      ← o .tree-over .ensures .0,
+      ne-eqb _ _ (c .if1 .taken),
+    )
 
 mul-nodes-ok : tie.Need-mul-nodes-ok
 mul-nodes-ok c = let h = small (c .before .before .before .before .before) in omega arith
@@ -54,7 +63,15 @@ returns-2 c =
     let d = c .before .before in
     let t = d .before .before in
     let o = t .before .before in
-    rw (← t .tree-at .ensures, ← t .before .chain-at .ensures, ← o .before .total .ensures, ← o .tree-over .ensures .1, ← o .tree-over .ensures .0, eq-eqb _ _ (d .if1 .left)) (c .nodes-ok .ensures)
+    rw (
+      ← t .tree-at .ensures,
+      ← t .before .chain-at .ensures,
+      ← o .before .total .ensures,
+      ← o .tree-over .ensures .1,
+      ← o .tree-over .ensures .0,
+      eq-eqb _ _ (d .if1 .left),
+    )
+    (c .nodes-ok .ensures)
 
 pub chain-ok-spec : {M : Type 1} → statement M
 chain-ok-spec =

@@ -4,7 +4,7 @@ use Prim.Native.Nat.{_+_, _-_, _%_}
 use native.Mathlib.Nat.{mod-lt}
 use native.Mathlib.Omega.{arith}
 use borrow.Author.Tests.{ne-eqb}
-use Rattle.shares.proofs.ShareLaws.{least-whole, least-more, eqb-moved}
+use Rattle.shares.proofs.RowLaws.{least-whole, least-more, eqb-moved}
 use borrow.Author.Needs.{needs}
 use Rattle.shares.proofs.rows.is_least_multiple.Statement.{statement}
 use Rattle.shares.proofs.rows.is_least_multiple.Tie as tie

@@ -1,7 +1,7 @@
 -- Each early return refutes one of the facts that offsets in order have; at the end only the last is open.
 use mathlib.Core.Path.{sym}
 use native.Mathlib.Omega.{arith}
-use Rattle.shares.proofs.ShareLaws.{order-false, order-last}
+use Rattle.shares.proofs.RowLaws.{order-false, order-last}
 use borrow.Author.Needs.{needs}
 use Rattle.shares.proofs.rows.ordered.Statement.{statement}
 use Rattle.shares.proofs.rows.ordered.Tie as tie
@@ -44,8 +44,10 @@ returns-6 c = sym (order-false _ (λ h. omega arith))
 
 returns-7 : tie.Need-returns-7
 returns-7 c =
-    let a = c .before .before .before .before .before .before .before .before .before .before .before .before .before .args in
-    rw (order-last (a .s .now) (omega arith) (omega arith) (omega arith) (omega arith) (omega arith) (omega arith), c .before .end-at .ensures)
+    let b = c .before .before .before .before .before .before in
+    let s = b .before .before .before .before .before .before .before .args .s .now in
+    let l = order-last s (omega arith) (omega arith) (omega arith) (omega arith) (omega arith) (omega arith) in
+    rw (l, c .before .end-at .ensures)
 
 pub ordered-spec : {M : Type 1} → statement M
 ordered-spec =

@@ -1,6 +1,6 @@
 -- The size first, and only then the data length.
 use borrow.Author.Tests.{eq-eqb, ne-eqb}
-use Rattle.shares.specs.Share.{treeOk}
+use Rattle.shares.specs.Rows.{treeOk}
 use borrow.Author.Needs.{needs}
 use Rattle.shares.proofs.rows.tree_ok.Statement.{statement}
 use Rattle.shares.proofs.rows.tree_ok.Tie as tie
@@ -28,14 +28,26 @@ unfolding treeOk
 returns-2 c =
     let z = c .before .before in
     let t = z .before in
-    rw (← t .before .share-data-at .ensures, ← t .tree-at .ensures, ne-eqb _ _ (z .if1 .left), ← c .before .data-length .ensures, ne-eqb _ _ (c .if2 .taken))
+    rw (
+      ← t .before .share-data-at .ensures,
+      ← t .tree-at .ensures,
+      ne-eqb _ _ (z .if1 .left),
+      ← c .before .data-length .ensures,
+      ne-eqb _ _ (c .if2 .taken),
+    )
 
 returns-3 : tie.Need-returns-3
 unfolding treeOk
 returns-3 c =
     let z = c .before .before in
     let t = z .before in
-    rw (← t .before .share-data-at .ensures, ← t .tree-at .ensures, ne-eqb _ _ (z .if1 .left), ← c .before .data-length .ensures, eq-eqb _ _ (c .if2 .left))
+    rw (
+      ← t .before .share-data-at .ensures,
+      ← t .tree-at .ensures,
+      ne-eqb _ _ (z .if1 .left),
+      ← c .before .data-length .ensures,
+      eq-eqb _ _ (c .if2 .left),
+    )
 
 pub tree-ok-spec : {M : Type 1} → statement M
 tree-ok-spec =

@@ -1,6 +1,5 @@
 -- The boundaries as they were read; offsets in order are at most the length, so no sum wraps.
-use Rattle.shares.specs.Share.{boundsOf}
-use Rattle.shares.specs.Steps.{boundsAt}
+use Rattle.shares.specs.Checked.{boundsOf, boundsAt}
 use borrow.Author.Needs.{needs}
 use Rattle.shares.proofs.share.bounds_at.Statement.{statement}
 use Rattle.shares.proofs.share.bounds_at.Tie as tie
@@ -48,7 +47,14 @@ returns : tie.Need-returns
 unfolding boundsAt boundsOf
 returns c =
     let t = c .before .before .before in
-    rw (t .before .before .signature-at .ensures, t .before .chain-at .ensures, t .tree-at .ensures, c .before .before .share-data-at .ensures, c .before .private-key-at .ensures, c .end-at .ensures)
+    rw (
+      t .before .before .signature-at .ensures,
+      t .before .chain-at .ensures,
+      t .tree-at .ensures,
+      c .before .before .share-data-at .ensures,
+      c .before .private-key-at .ensures,
+      c .end-at .ensures,
+    )
 
 pub bounds-at-spec : {M : Type 1} → statement M
 bounds-at-spec =

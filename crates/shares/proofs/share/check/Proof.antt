@@ -1,6 +1,5 @@
 -- A bare share begins at byte 0.
-use mathlib.Core.Path.{_∙_}
-use Rattle.shares.proofs.CheckedLaws.{checked-bare}
+use Rattle.shares.specs.Checked.{checkedOf}
 use borrow.Author.Needs.{needs}
 use Rattle.shares.proofs.share.check.Statement.{statement}
 use Rattle.shares.proofs.share.check.Tie as tie
@@ -9,7 +8,8 @@ checked-at-requires : tie.Need-checked-at-requires
 checked-at-requires c κs = search needs
 
 returns : tie.Need-returns
-returns c = c .checked-at .ensures ∙ checked-bare _
+unfolding checkedOf
+returns c = c .checked-at .ensures
 
 pub check-spec : {M : Type 1} → statement M
 check-spec = tie.close (tie.spec checked-at-requires returns)

@@ -1,6 +1,6 @@
 -- As `part`, with the boundaries counted from the container's first byte.
 use mathlib.Core.Path.{_∙_}
-use Rattle.shares.specs.Checked.{containerPart}
+use Rattle.shares.specs.Checked.{containerPart, containerPartAt}
 use Rattle.shares.proofs.CheckedLaws.{container-inside}
 use borrow.Author.Needs.{needs}
 use Rattle.shares.proofs.share.container_part.Statement.{statement}
@@ -10,11 +10,15 @@ check-container-requires : tie.Need-check-container-requires
 check-container-requires c κs = search needs
 
 part-of-requires : tie.Need-part-of-requires
-part-of-requires c κs = (c .before .before .before .pre, rw (c .before .check-container .ensures) (container-inside _ _ (c .before .before .before .pre)))
+part-of-requires c κs =
+    let p = c .before .before .before .pre in
+    (p, rw (c .before .check-container .ensures) (container-inside _ _ p))
 
 returns : tie.Need-returns
-unfolding containerPart
-returns c = c .part-of .ensures ∙ rw (c .before .before .check-container .ensures)
+unfolding containerPart containerPartAt
+returns c =
+    let e = c .before .before .check-container .ensures in
+    (c .part-of .ensures .0 ∙ rw e, c .part-of .ensures .1 ∙ rw e)
 
 pub container-part-spec : {M : Type 1} → statement M
 container-part-spec = tie.close (tie.spec check-container-requires part-of-requires returns)

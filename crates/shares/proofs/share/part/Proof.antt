@@ -1,6 +1,6 @@
 -- The boundaries that the checker tells lie inside the slice.
 use mathlib.Core.Path.{_∙_}
-use Rattle.shares.specs.Checked.{sharePart}
+use Rattle.shares.specs.Checked.{sharePart, partAt}
 use Rattle.shares.proofs.CheckedLaws.{share-inside}
 use borrow.Author.Needs.{needs}
 use Rattle.shares.proofs.share.part.Statement.{statement}
@@ -10,11 +10,15 @@ check-requires : tie.Need-check-requires
 check-requires c κs = search needs
 
 part-of-requires : tie.Need-part-of-requires
-part-of-requires c κs = (c .before .before .before .pre, rw (c .before .check .ensures) (share-inside _ _ (c .before .before .before .pre)))
+part-of-requires c κs =
+    let p = c .before .before .before .pre in
+    (p, rw (c .before .check .ensures) (share-inside _ _ p))
 
 returns : tie.Need-returns
-unfolding sharePart
-returns c = c .part-of .ensures ∙ rw (c .before .before .check .ensures)
+unfolding sharePart partAt
+returns c =
+    let e = c .before .before .check .ensures in
+    (c .part-of .ensures .0 ∙ rw e, c .part-of .ensures .1 ∙ rw e)
 
 pub part-spec : {M : Type 1} → statement M
 part-spec = tie.close (tie.spec check-requires part-of-requires returns)

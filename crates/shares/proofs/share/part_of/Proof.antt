@@ -1,6 +1,6 @@
 -- The part between two boundaries is what the definition takes.
-use native.Mathlib.Numerals.{add-one}
-use Rattle.shares.specs.Bounds.{partBetween, partOf}
+use Rattle.container.proofs.DataLaws.{beyond-is}
+use Rattle.shares.proofs.BoundLaws.{part-is}
 use borrow.Author.Needs.{needs}
 use Rattle.shares.proofs.share.part_of.Statement.{statement}
 use Rattle.shares.proofs.share.part_of.Tie as tie
@@ -30,8 +30,9 @@ part-result-end : tie.Need-part-result-end
 part-result-end c = search needs
 
 returns : tie.Need-returns
-unfolding partBetween partOf
-returns c = rw add-one
+returns c =
+    let a = c .before .args in
+    (part-is (a .i) _ (a .s .now), beyond-is (a .s .ptr) _)
 
 pub part-of-spec : {M : Type 1} → statement M
 part-of-spec =

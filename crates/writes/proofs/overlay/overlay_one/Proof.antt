@@ -4,6 +4,7 @@ use native.Mathlib.Omega.{arith}
 use lib.ListN.{length-take}
 use borrow.Author.Needs.{needs}
 use Rattle.writes.proofs.TableLaws.{write-near, write-far}
+use borrow.Author.Needs.{needs}
 use Rattle.writes.proofs.overlay.overlay_one.Statement.{statement}
 use Rattle.writes.proofs.overlay.overlay_one.Tie as tie
 
@@ -30,7 +31,9 @@ same-length c = search needs
 returns-2 : tie.Need-returns-2
 returns-2 c =
     let a = c .before .before .before .before .before .before .before .before .before .args in
-    c .before .before .copy-part .ensures ∙ write-near (a .d .now) (a .position) (c .before .before .before .before .before .lesser .result) (a .bytes .now) (omega arith) (omega arith)
+    let n = c .before .before .before .before .before .lesser in
+    c .before .before .copy-part .ensures
+    ∙ write-near (a .d .now) (a .position) (n .result) (a .bytes .now) (omega arith) (n .ensures)
 
 pub overlay-one-spec : {M : Type 1} → statement M
 overlay-one-spec =

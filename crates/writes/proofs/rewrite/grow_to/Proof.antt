@@ -1,7 +1,8 @@
--- What is lent is the block and as many zeros as the data grows by.
+-- What is lent is the tail and as many zeros as the data grows by.
 use native.Mathlib.Omega.{arith}
 use borrow.Author.Needs.{needs}
-use Rattle.writes.proofs.LayoutLaws.{grown-laid, laid-length}
+use Rattle.format.proofs.ViewLaws.{laid-length}
+use Rattle.writes.proofs.RewriteLaws.{grown-laid}
 use Rattle.writes.proofs.rewrite.grow_to.Statement.{statement}
 use Rattle.writes.proofs.rewrite.grow_to.Tie as tie
 
@@ -32,7 +33,11 @@ same-length c = search needs
 returns : tie.Need-returns
 returns c =
     let a = c .before .before .before .before .before .args in
-    record { turn = λ L. grown-laid _ (a .s) (a .f) (a .t) (a .c .now) _ _ _ _ L (omega arith) (omega (arith, laid-length L)) (c .before .before .shift-up .ensures) }
+    let y = c .before .before .shift-up .ensures in
+    record {
+      turn = λ L.
+          grown-laid _ (a .s) (a .f) (a .k) (a .c .now) _ _ _ _ L (omega arith) (omega (arith, laid-length L)) y;
+    }
 
 pub grow-to-spec : {M : Type 1} → statement M
 grow-to-spec =

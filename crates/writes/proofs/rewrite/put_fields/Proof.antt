@@ -1,6 +1,7 @@
 -- What is lent is the two fields in the head.
 use borrow.Author.Needs.{needs}
-use Rattle.writes.proofs.LayoutLaws.{fields-laid}
+use Rattle.writes.proofs.RewriteLaws.{fields-laid}
+use borrow.Author.Needs.{needs}
 use Rattle.writes.proofs.rewrite.put_fields.Statement.{statement}
 use Rattle.writes.proofs.rewrite.put_fields.Tie as tie
 
@@ -23,9 +24,9 @@ same-length : tie.Need-same-length
 same-length c = search needs
 
 returns : tie.Need-returns
-returns c s t =
+returns c s k =
     let a = c .before .before .before .before .before .args in
-    record { turn = λ L. fields-laid _ s t (a .c .now) _ _ _ _ L (a .f) (c .before .before .put-sizes .ensures) }
+    record { turn = λ L. fields-laid _ s k (a .c .now) _ _ _ _ L (a .f) (c .before .before .put-sizes .ensures) }
 
 pub put-fields-spec : {M : Type 1} → statement M
 put-fields-spec =

@@ -1,6 +1,6 @@
 -- Data that has the size stays; the other two ways promise the same turn.
 use borrow.Author.Needs.{needs}
-use Rattle.writes.proofs.LayoutLaws.{same-laid}
+use Rattle.writes.proofs.RewriteLaws.{same-laid}
 use Rattle.writes.proofs.rewrite.resize.Statement.{statement}
 use Rattle.writes.proofs.rewrite.resize.Tie as tie
 

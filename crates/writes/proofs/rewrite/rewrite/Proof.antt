@@ -1,48 +1,73 @@
--- The three turns of the layout, one after the other, make the encoding with the data rewritten.
+-- The three turns of the view, one after the other, make the encoding with the data rewritten.
 use Prim.Native.Nat.{_+_, _*_, _≤_}
 use native.Mathlib.Omega.{arith}
 use lib.ListN.{length}
 use borrow.Author.Needs.{needs}
+use Rattle.octets.specs.Strings.{Octets}
+use Rattle.format.specs.Layout.{countSize, recordSize, dataAt}
+use Rattle.format.specs.Parts.{partsOf}
 use Rattle.format.proofs.WellFormed.{used-is}
-use Rattle.writes.proofs.Whole.{known-fits, rewritten-whole}
+use Rattle.format.proofs.JudgingLaws.{known-sized}
+use Rattle.rules.specs.Outcomes.{after}
+use Rattle.requests.specs.Forms.{cutIn}
+use Rattle.writes.proofs.Whole.{rewritten-whole}
 use Rattle.writes.proofs.rewrite.rewrite.Statement.{statement}
 use Rattle.writes.proofs.rewrite.rewrite.Tie as tie
 
--- Both layouts fit.
-room : (s : tie.Start) → let t = 4 + 92 * s .args .extras in (468 + s .args .size + t ≤ length (s .args .c .now)) × (468 + s .args .f + t ≤ length (s .args .c .now))
-room s = (known-fits (s .args .c .now) (s .args .size) (s .args .extras) (s .pre .0), omega (arith, used-is (s .args .f) (s .args .extras)))
+-- Both views fit.
+room : (s : tie.Start)
+    → let a = s .args in
+    let n = length (a .c .now) in
+    let k = countSize + recordSize * a .frame .extras in
+    (dataAt + a .frame .size + k ≤ n) × (dataAt + a .f + k ≤ n)
+room s =
+    let a = s .args in (
+      omega (arith, known-sized (a .c .now) (a .frame) (s .pre .0) .fits),
+      omega (arith, used-is (a .f) (a .frame .extras), s .pre .2 .fits),
+    )
 
-mul-t : tie.Need-mul-t
-mul-t c = omega (arith, room (c .before .before))
+mul-k : tie.Need-mul-k
+mul-k c = omega (arith, room (c .before .before .before))
 
-add-t : tie.Need-add-t
-add-t c = omega (arith, room (c .before .before))
+add-k : tie.Need-add-k
+add-k c = omega (arith, room (c .before .before .before))
 
 resize-requires : tie.Need-resize-requires
-resize-requires c κs = room (c .before .before .before)
+resize-requires c κs = room (c .before .before .before .before)
 
 put-fields-requires : tie.Need-put-fields-requires
-put-fields-requires c κs = omega (arith, room (c .before .before .before .before .before .before .before))
+put-fields-requires c κs = omega (arith, room (c .before .before .before .before .before .before .before .before))
 
 write-data-requires : tie.Need-write-data-requires
-write-data-requires c κs = let s = c .before .before .before .before .before .before .before .before .before .before .before in (omega (arith, room s), s .pre .1)
+write-data-requires c κs =
+    let s = c .before .before .before .before .before .before .before .before .before .before .before .before in
+    (omega (arith, room s), s .pre .1)
 
 same-length : tie.Need-same-length
 same-length c = search needs
 
 returns : tie.Need-returns
+unfolding after partsOf
 returns c =
-    let s = c .before .before .before .before .before .before .before .before .before .before .before .before .before .before in
-    let t = 4 + 92 * s .args .extras in
-    rewritten-whole (s .args .c .now) _ (s .args .size) (s .args .extras) (s .args .f) _ (s .pre .0) (λ j. omega (arith, c .before .before .before .before .before .before .before .before .before .before .before .before .before .slice-known .given j))
-    (record { turn = λ L. c .before .before .write-data .ensures t .turn (c .before .before .before .before .before .before .put-fields .ensures (s .args .f) t .turn (c .before .before .before .before .before .before .before .before .before .before .resize .ensures .turn L)) })
+    let w = c .before .before in
+    let p = w .before .before .before .before in
+    let r = p .before .before .before .before in
+    let s = r .before .before .before .before .before in
+    let a = s .args in
+    let k = countSize + recordSize * a .frame .extras in
+    let o : Octets (a .c .now) = λ i. omega (arith, r .before .before .before .before .slice-known .given i) in
+    rewritten-whole (a .c .now) _ (a .frame) (a .f) (s .pre .0) o _ (cutIn (a .t .cut))
+    (record {
+      turn = λ L. w .write-data .ensures k .turn (p .put-fields .ensures (a .f) k .turn (r .resize .ensures .turn L));
+    })
+    (s .pre .2 .size)
 
 pub rewrite-spec : {M : Type 1} → statement M
 rewrite-spec =
     tie.close
     (tie.spec
-    mul-t
-    add-t
+    mul-k
+    add-k
     resize-requires
     put-fields-requires
     write-data-requires

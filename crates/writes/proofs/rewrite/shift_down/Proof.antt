@@ -4,7 +4,7 @@ use Prim.Native.Nat.{_-_}
 use native.Mathlib.Omega.{arith}
 use lib.ListN.{length}
 use borrow.Author.Needs.{needs}
-use Rattle.writes.proofs.LayoutLaws.{shifted-down}
+use Rattle.writes.proofs.RewriteLaws.{shifted-down}
 use Rattle.writes.proofs.rewrite.shift_down.Statement.{statement}
 use Rattle.writes.proofs.rewrite.shift_down.Tie as tie
 
@@ -23,7 +23,9 @@ same-length c = search needs
 returns : tie.Need-returns
 returns c =
     let a = c .before .before .before .before .before .before .before .before .before .args in
-    c .before .before .clear-part .ensures ∙ rw (c .before .before .before .before .before .before .move-within .ensures) (shifted-down (a .p .now) (a .t) (length (a .p .now) - a .t) (omega arith) refl)
+    c .before .before .clear-part .ensures
+    ∙ rw (c .before .before .before .before .before .before .move-within .ensures)
+    (shifted-down (a .p .now) (a .t) (length (a .p .now) - a .t) (omega arith) refl)
 
 pub shift-down-spec : {M : Type 1} → statement M
 shift-down-spec =

@@ -1,7 +1,7 @@
--- What is lent is the end of the data and the block.
+-- What is lent is the end of the data and the tail.
 use native.Mathlib.Omega.{arith}
 use borrow.Author.Needs.{needs}
-use Rattle.writes.proofs.LayoutLaws.{shrunk-laid}
+use Rattle.writes.proofs.RewriteLaws.{shrunk-laid}
 use Rattle.writes.proofs.rewrite.shrink_to.Statement.{statement}
 use Rattle.writes.proofs.rewrite.shrink_to.Tie as tie
 
@@ -32,7 +32,8 @@ same-length c = search needs
 returns : tie.Need-returns
 returns c =
     let a = c .before .before .before .before .before .args in
-    record { turn = λ L. shrunk-laid _ (a .s) (a .f) (a .t) (a .c .now) _ _ _ _ L (omega arith) (c .before .before .shift-down .ensures) }
+    let y = c .before .before .shift-down .ensures in
+    record { turn = λ L. shrunk-laid _ (a .s) (a .f) (a .k) (a .c .now) _ _ _ _ L (omega arith) y }
 
 pub shrink-to-spec : {M : Type 1} → statement M
 shrink-to-spec =

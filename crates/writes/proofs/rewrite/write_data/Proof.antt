@@ -1,8 +1,8 @@
 -- What is lent is the data.
 use borrow.Author.Needs.{needs}
-use Rattle.rules.specs.Requests.{writesFrom}
 use Rattle.rules.specs.Writing.{placed}
-use Rattle.writes.proofs.LayoutLaws.{data-laid}
+use Rattle.requests.specs.Forms.{writesIn}
+use Rattle.writes.proofs.RewriteLaws.{data-laid}
 use Rattle.writes.proofs.rewrite.write_data.Statement.{statement}
 use Rattle.writes.proofs.rewrite.write_data.Tie as tie
 
@@ -25,9 +25,10 @@ same-length : tie.Need-same-length
 same-length c = search needs
 
 returns : tie.Need-returns
-returns c t =
+returns c k =
     let a = c .before .before .before .before .before .before .args in
-    record { turn = λ L. data-laid _ (a .f) t (a .c .now) _ _ _ _ L (placed (writesFrom (a .n) (a .from) (a .bodies) (a .q .now)) (a .size)) (c .before .before .overlay-all .ensures) }
+    let ws = placed (writesIn (a .t) (a .q .now)) (a .size) in
+    record { turn = λ L. data-laid _ (a .f) k (a .c .now) _ _ _ _ L ws (c .before .before .overlay-all .ensures) }
 
 pub write-data-spec : {M : Type 1} → statement M
 write-data-spec =

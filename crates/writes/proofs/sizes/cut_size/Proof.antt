@@ -1,16 +1,16 @@
 -- The three exits are the cases of the lesser of two numbers.
 use native.Mathlib.Omega.{arith}
-use Rattle.rules.specs.Writing.{cutSize}
+use Rattle.rules.specs.Sizes.{cutSize}
 use Rattle.writes.proofs.sizes.cut_size.Statement.{statement}
 use Rattle.writes.proofs.sizes.cut_size.Tie as tie
 
 returns : tie.Need-returns
 unfolding cutSize
-returns c = rw (c .before .if1 .taken) (omega arith)
+returns c = rw (c .before .before .if1 .taken) (omega arith)
 
 returns-2 : tie.Need-returns-2
 unfolding cutSize
-returns-2 c = rw (c .before .if1 .taken) (omega arith)
+returns-2 c = rw (c .before .before .if1 .taken) (omega arith)
 
 returns-3 : tie.Need-returns-3
 unfolding cutSize

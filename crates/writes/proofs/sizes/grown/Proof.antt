@@ -8,7 +8,9 @@ use Rattle.writes.proofs.TableLaws.{grow-some, grow-none}
 use Rattle.writes.proofs.sizes.grown.Statement.{statement}
 use Rattle.writes.proofs.sizes.grown.Tie as tie
 
-larger : (c : tie.Else1) → let a = c .before .args in grow (a .size) (a .position) (a .count) ≡ max (a .size) (a .position + a .count)
+larger : (c : tie.Else1)
+    → let a = c .before .args in
+    grow (a .size) (a .position) (a .count) ≡ max (a .size) (a .position + a .count)
 larger c = let a = c .before .args in grow-some (a .size) (a .position) (a .count) (c .if1 .left)
 
 returns : tie.Need-returns

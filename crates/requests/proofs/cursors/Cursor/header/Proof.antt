@@ -1,18 +1,15 @@
--- Three bytes of the request as they stand, and what `u32_at` promises.
+-- Three bytes of the request as they stand, and a number.
 use Prim.Native.Nat.{_+_}
 use native.Mathlib.Omega.{arith}
 use borrow.Author.Needs.{needs}
 use Rattle.requests.proofs.cursors.Cursor.header.Statement.{statement}
 use Rattle.requests.proofs.cursors.Cursor.header.Tie as tie
 
-add-tests : tie.Need-add-tests
-add-tests c = search needs
-
 shared-slice-read-tests : tie.Need-shared-slice-read-tests
 shared-slice-read-tests c = search needs
 
 cast-tests : tie.Need-cast-tests
-cast-tests c = omega (arith, c .shared-slice-known2 .given (c .before .before .args .self .at + 1))
+cast-tests c = omega (arith, c .shared-slice-known2 .given (c .before .before .args .self .at))
 
 add-writes : tie.Need-add-writes
 add-writes c = search needs
@@ -21,7 +18,7 @@ shared-slice-read-writes : tie.Need-shared-slice-read-writes
 shared-slice-read-writes c = search needs
 
 cast-writes : tie.Need-cast-writes
-cast-writes c = omega (arith, c .shared-slice-known3 .given (c .before .before .before .args .self .at + 2))
+cast-writes c = omega (arith, c .shared-slice-known3 .given (c .before .before .before .args .self .at + 1))
 
 add-flag : tie.Need-add-flag
 add-flag c = search needs
@@ -30,7 +27,7 @@ shared-slice-read-flag : tie.Need-shared-slice-read-flag
 shared-slice-read-flag c = search needs
 
 cast-flag : tie.Need-cast-flag
-cast-flag c = omega (arith, c .shared-slice-known4 .given (c .before .before .before .before .args .self .at + 3))
+cast-flag c = omega (arith, c .shared-slice-known4 .given (c .before .before .before .before .args .self .at + 2))
 
 add-u32-at : tie.Need-add-u32-at
 add-u32-at c = search needs
@@ -41,8 +38,8 @@ u32-at-requires c κs = search needs
 cast-new : tie.Need-cast-new
 cast-new c = search needs
 
-add-t8 : tie.Need-add-t8
-add-t8 c = search needs
+add-t10 : tie.Need-add-t10
+add-t10 c = search needs
 
 returns : tie.Need-returns
 returns c = rw (c .u32-at .ensures)
@@ -51,7 +48,6 @@ pub header-spec : {M : Type 1} → statement M
 header-spec =
     tie.close
     (tie.spec
-    add-tests
     shared-slice-read-tests
     cast-tests
     add-writes
@@ -63,5 +59,5 @@ header-spec =
     add-u32-at
     u32-at-requires
     cast-new
-    add-t8
+    add-t10
     returns)

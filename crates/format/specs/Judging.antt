@@ -1,0 +1,49 @@
+-- What judging a buffer answers, and what the code that goes on knows of the container.
+use Prim.Native.Nat.{ℕ}
+use mathlib.Core.Path.{_≡_}
+use mathlib.Core.Bool.{true, cond}
+use mathlib.Core.List.{List}
+use mathlib.Core.Option.{Option, none, some}
+use Rattle.octets.specs.Rows.{firstRow}
+use Rattle.format.specs.Layout.{sizeOf, extrasOf}
+use Rattle.format.specs.Container.{fieldsOk, wellFormed, containerRows}
+use Rattle.format.specs.declared.layout.Frame.{Frame}
+use Rattle.format.specs.declared.judging.Fields.{Fields}
+use Rattle.format.specs.declared.judging.Fields.the-variants.{Disagree, Agree}
+use Rattle.format.specs.declared.judging.Judged.{Judged}
+use Rattle.format.specs.declared.judging.Judged.the-variants.{BadLength, Malformed, Formed}
+
+-- What the code keeps of a well-formed container.
+abbrev pub frameOf : List ℕ → Frame
+frameOf c = record { size = sizeOf c; extras = extrasOf c }
+
+-- What reading the fields answers: the frame where they agree.
+abbrev pub fieldsFound : List ℕ → Fields
+fieldsFound c = cond (fieldsOk c) (Agree (frameOf c)) Disagree
+
+pub record Framed (c : List ℕ) (f : Frame) : Type 0 where
+  pub size-is : f .size ≡ sizeOf c
+  pub extras-is : f .extras ≡ extrasOf c
+  pub agree : fieldsOk c ≡ true
+
+-- The outcome's number for each case of `Judged`, 0 for a well-formed container, and the frame that comes with it.
+abbrev pub judgedNumber : Judged → ℕ
+judgedNumber BadLength = 1
+judgedNumber Malformed = 2
+judgedNumber (Formed f) = 0
+
+abbrev pub judgedFrame : Judged → Option Frame
+judgedFrame BadLength = none
+judgedFrame Malformed = none
+judgedFrame (Formed f) = some f
+
+-- Judging c answers j.
+pub record Judges (c : List ℕ) (j : Judged) : Type 0 where
+  pub number : judgedNumber j ≡ firstRow (containerRows c)
+  pub frame : judgedFrame j ≡ cond (wellFormed c) (some (frameOf c)) none
+
+-- A well-formed container with its frame, for the code that goes on with it.
+pub record Known (c : List ℕ) (f : Frame) : Type 0 where
+  pub formed : wellFormed c ≡ true
+  pub size-is : f .size ≡ sizeOf c
+  pub extras-is : f .extras ≡ extrasOf c

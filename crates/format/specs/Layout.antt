@@ -1,0 +1,127 @@
+-- The layout of a container (document 01, "The container"): a table of fields in one buffer, numbers big-endian.
+-- Every definition is total: of bytes that are no container it says something, and `wellFormed` says that they are none.
+use Prim.Native.Nat.{ℕ, zero, suc, _+_, _-_, _*_}
+use mathlib.Core.Bool.{cond}
+use mathlib.Core.List.{List, [], _∷_, _++_}
+use lib.ListN.{take, drop}
+use lib.Dec.{ltb}
+use Rattle.octets.specs.Numbers.{numberAt}
+
+-- "tahoe mutable container v1", then 0A 75 09 44 03 8E.
+abbrev pub magic : List ℕ
+magic =
+    116 ∷ 97 ∷ 104 ∷ 111 ∷ 101 ∷ 32 ∷ 109 ∷ 117 ∷ 116 ∷ 97 ∷ 98 ∷ 108 ∷ 101 ∷ 32 ∷ 99 ∷ 111 ∷ 110 ∷ 116 ∷ 97 ∷ 105
+    ∷ 110 ∷ 101 ∷ 114 ∷ 32 ∷ 118 ∷ 49 ∷ 10 ∷ 117 ∷ 9 ∷ 68 ∷ 3 ∷ 142 ∷ []
+
+-- The sizes of the fields: node id, a secret (write enabler or token), data size and offset, extra-lease count.
+abbrev pub nodeSize : ℕ
+nodeSize = 20
+
+abbrev pub secretSize : ℕ
+secretSize = 32
+
+abbrev pub sizeWidth : ℕ
+sizeWidth = 8
+
+abbrev pub countSize : ℕ
+countSize = 4
+
+-- The lease record: owner 4 (0 = none), expiry 4, renewal token 32, cancel token 32, node id 20.
+abbrev pub expiryAt : ℕ
+expiryAt = 4
+
+abbrev pub renewalAt : ℕ
+renewalAt = expiryAt + 4
+
+abbrev pub cancelAt : ℕ
+cancelAt = renewalAt + secretSize
+
+abbrev pub recordSize : ℕ
+recordSize = cancelAt + secretSize + nodeSize
+
+-- How many lease places are fixed, how many extra leases there may be, and how many leases in all.
+abbrev pub fixedPlaces : ℕ
+fixedPlaces = 4
+
+abbrev pub extraLimit : ℕ
+extraLimit = 60
+
+abbrev pub leaseLimit : ℕ
+leaseLimit = fixedPlaces + extraLimit
+
+-- The table: where each field begins, after the 32 bytes of the magic.
+abbrev pub nodeAt : ℕ
+nodeAt = 32
+
+abbrev pub enablerAt : ℕ
+enablerAt = nodeAt + nodeSize
+
+abbrev pub sizeAt : ℕ
+sizeAt = enablerAt + secretSize
+
+abbrev pub offsetAt : ℕ
+offsetAt = sizeAt + sizeWidth
+
+abbrev pub leasesAt : ℕ
+leasesAt = offsetAt + sizeWidth
+
+abbrev pub dataAt : ℕ
+dataAt = leasesAt + fixedPlaces * recordSize
+
+-- Where the extra-lease count stands beside s bytes of data.
+unfoldable pub countAt : ℕ → ℕ
+countAt s = dataAt + s
+
+-- The used length with s bytes of data and e extra leases.
+unfoldable pub usedLength : ℕ → ℕ → ℕ
+usedLength s e = countAt s + countSize + recordSize * e
+
+-- The shortest buffer holds the fields, no data and no extra lease; the longest.
+abbrev pub least : ℕ
+least = dataAt + countSize
+
+abbrev pub limit : ℕ
+limit = 65536
+
+-- The fields: node id, write enabler, data size s, data, extra-lease count e.
+unfoldable pub nodeOf : List ℕ → List ℕ
+nodeOf c = take nodeSize (drop nodeAt c)
+
+unfoldable pub enablerOf : List ℕ → List ℕ
+enablerOf c = take secretSize (drop enablerAt c)
+
+unfoldable pub sizeOf : List ℕ → ℕ
+sizeOf c = numberAt sizeWidth sizeAt c
+
+unfoldable pub dataOf : List ℕ → List ℕ
+dataOf c = take (sizeOf c) (drop dataAt c)
+
+unfoldable pub extrasOf : List ℕ → ℕ
+extrasOf c = numberAt countSize (countAt (sizeOf c)) c
+
+-- The n lease records from p on.
+unfoldable pub records : ℕ → ℕ → List ℕ → List (List ℕ)
+records zero p c = []
+records (suc n) p c = take recordSize (drop p c) ∷ records n (p + recordSize) c
+
+-- The lease places: the four, then the extras.
+unfoldable pub leasesOf : List ℕ → List (List ℕ)
+leasesOf c = records fixedPlaces leasesAt c ++ records (extrasOf c) (countAt (sizeOf c) + countSize) c
+
+-- The fields of a lease record.
+unfoldable pub ownerOf : List ℕ → ℕ
+ownerOf r = numberAt 4 0 r
+
+unfoldable pub expiryOf : List ℕ → ℕ
+expiryOf r = numberAt 4 expiryAt r
+
+unfoldable pub renewalOf : List ℕ → List ℕ
+renewalOf r = take secretSize (drop renewalAt r)
+
+unfoldable pub cancelOf : List ℕ → List ℕ
+cancelOf r = take secretSize (drop cancelAt r)
+
+-- Where lease place i begins: the four, then the extras behind the count.
+unfoldable pub placeAt : ℕ → ℕ → ℕ
+placeAt s i =
+    cond (ltb i fixedPlaces) (leasesAt + recordSize * i) (countAt s + countSize + recordSize * (i - fixedPlaces))

@@ -1,0 +1,14 @@
+-- A container's bytes as the code that changes them sees them: head, data, tail, zeros.
+use Prim.Native.Nat.{ℕ, _+_, _-_, _≤_}
+use mathlib.Core.Path.{_≡_}
+use mathlib.Core.List.{List, _++_}
+use lib.ListN.{length, replicate}
+use Rattle.format.specs.Layout.{dataAt}
+
+-- c has n bytes: a head h, s bytes of data d, a tail t of k bytes, and zeros.
+pub record Laid (n s k : ℕ) (c h d t : List ℕ) : Type 0 where
+  pub is : c ≡ h ++ (d ++ (t ++ replicate (n - (dataAt + s + k)) 0))
+  pub head : length h ≡ dataAt
+  pub sized : length d ≡ s
+  pub tail : length t ≡ k
+  pub fits : dataAt + s + k ≤ n

@@ -1,0 +1,56 @@
+-- Every outcome is a number that the table has for the request's kind. Assumes nothing.
+use mathlib.Core.Path.{_≡_, refl}
+use mathlib.Core.Bool.{Bool, true, false, cond, not}
+use mathlib.Core.List.{List, [], _∷_}
+use mathlib.Core.Option.{none}
+use Prim.Native.Nat.{ℕ}
+use Rattle.format.specs.Container.{lengthAllowed, wellFormed}
+use Rattle.octets.specs.Lists.{Each, anyOf, Among}
+use Rattle.rules.specs.Requests.{testWriteOf, requestOf, kindOf}
+use Rattle.octets.specs.Rows.{Row, firstRow}
+use Rattle.rules.specs.Outcomes.{rows, roomRows, requestRows, outcome, createOutcome, admitRows, findRows}
+use Rattle.rules.specs.Claims.{numbersFor}
+use Rattle.rules.proofs.RequestLaws.{Kinds, broken, tests, adds, renews, cancels, reads, kinds}
+
+-- the firstRow number of a table is 0 or that of a row
+firstRow-among : (ns : List ℕ) (rs : List Row) → Among 0 ns → Each (λ r. Among (r .number) ns) rs → Among (firstRow rs) ns
+unfolding firstRow
+firstRow-among ns [] z h = z
+firstRow-among ns (r ∷ rs) z h = go (r .applies) (firstRow-among ns rs z (h .1))
+  where
+    go : (b : Bool) → Among (firstRow rs) ns → Among (cond b (r .number) (firstRow rs)) ns
+    go true k = h .0
+    go false k = k
+
+-- a broken request is answered 1, 2 or 3
+pub broken-is : (P : ℕ → Type 0) (c q : List ℕ) (n : ℕ) → requestOf q ≡ none → P 1 → P 2 → P 3 → P (outcome c q n)
+unfolding outcome requestRows firstRow
+broken-is P c q n e one two three = rw e (go (not (lengthAllowed c)) (not (wellFormed c)))
+  where
+    go : (a b : Bool) → P (cond a 1 (cond b 2 3))
+    go true b = one
+    go false true = two
+    go false false = three
+
+pub broken-among : (c q : List ℕ) (n : ℕ) → requestOf q ≡ none → Among (outcome c q n) (1 ∷ 2 ∷ 3 ∷ [])
+unfolding anyOf
+broken-among c q n e = broken-is (λ k. Among k (1 ∷ 2 ∷ 3 ∷ [])) c q n e refl refl refl
+
+kind-among : (c q : List ℕ) (n : ℕ) → Kinds q → Among (outcome c q n) (numbersFor (kindOf q))
+unfolding outcome requestRows rows admitRows findRows roomRows numbersFor anyOf testWriteOf
+kind-among c q n (broken e) = broken-is (λ k. Among k (numbersFor (kindOf q))) c q n e refl refl refl
+kind-among c q n (tests k l o e) =
+    rw (e, k) (firstRow-among (numbersFor 1) _ refl (refl, (refl, (refl, (refl, (refl, (refl, (refl, tt))))))))
+kind-among c q n (adds k o e) = rw (e, k) (firstRow-among (numbersFor 2) _ refl (refl, (refl, (refl, (refl, tt)))))
+kind-among c q n (renews k o e) = rw (e, k) (firstRow-among (numbersFor 3) _ refl (refl, (refl, (refl, tt))))
+kind-among c q n (cancels k o e) = rw (e, k) (firstRow-among (numbersFor 4) _ refl (refl, (refl, (refl, tt))))
+kind-among c q n (reads k o e) =
+    rw (e, k) (firstRow-among (numbersFor 5) _ refl (refl, (refl, (refl, (refl, (refl, tt))))))
+
+pub outcome-among : (c q : List ℕ) (n : ℕ) → Among (outcome c q n) (numbersFor (kindOf q))
+outcome-among c q n = kind-among c q n (kinds q)
+
+-- create's table has rows 1, 3 and 12
+pub create-among : (c node enabler : List ℕ) → Among (createOutcome c node enabler) (0 ∷ 1 ∷ 3 ∷ 12 ∷ [])
+unfolding createOutcome anyOf
+create-among c node enabler = firstRow-among (0 ∷ 1 ∷ 3 ∷ 12 ∷ []) _ refl (refl, (refl, (refl, tt)))

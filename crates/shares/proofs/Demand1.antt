@@ -1,0 +1,164 @@
+-- Demand 1 of the share checks, for any bytes. Assumes nothing.
+use mathlib.Core.Path.{_≡_, refl, sym, ap, _∙_}
+use mathlib.Core.Bool.{Bool, true, false, cond}
+use mathlib.Core.List.{List, [], _∷_, _++_, map, append-nil}
+use Prim.Native.Nat.{ℕ, suc, _+_, _-_, _≤_, _<_}
+use native.Mathlib.Omega.{arith}
+use lib.Dec.{eqb}
+use lib.ListN.{length, take, drop, getD, take-append-drop}
+use lib.Seq.{drop-length, drop-drop}
+use borrow.Author.Tests.{eqb-true, eqb-false, eq-eqb}
+use Rattle.octets.specs.Rows.{Row, firstRow}
+use Rattle.container.specs.Data.{lentOf, dataLent}
+use Rattle.container.proofs.DataLaws.{lends, lent-number}
+use Rattle.shares.specs.Bounds.{partOf}
+use Rattle.shares.specs.Header.{keyAt, endAt}
+use Rattle.shares.specs.Rows.{headRows, bodyRows, shareOutcome}
+use Rattle.shares.specs.Checked.{boundsOf, refused, checkedOf, checkedContainer, sharePart, partAt}
+use Rattle.shares.specs.Checked.{containerPart, containerPartAt}
+use Rattle.shares.specs.Facts.{Inside}
+use Rattle.shares.specs.Claims.{shareNumbers, containerNumbers, InTurn, Demand1Share, Demand1Container}
+use Rattle.shares.proofs.CheckedLaws.{checked-number, checked-refused, checked-bounds, none-empty}
+use Rattle.shares.proofs.CheckedLaws.{bounds-inside, first-bound, last-bound, bounds-moved, container-refused}
+use Rattle.shares.proofs.CheckedLaws.{container-zero, container-none, container-shares}
+use Rattle.shares.proofs.BoundLaws.{risen, part-length, part-on, part-within}
+use Rattle.shares.proofs.RowLaws.{order-facts, outcome-ordered}
+use Rattle.octets.specs.Lists.{anyOf}
+
+-- ---- the number is one of the rows'
+occurs-here : (x : ℕ) (ys : List ℕ) → anyOf (eqb x) (x ∷ ys) ≡ true
+unfolding anyOf
+occurs-here x ys = rw (eq-eqb x x refl)
+
+occurs-later : (x y : ℕ) (ys : List ℕ) → anyOf (eqb x) ys ≡ true → anyOf (eqb x) (y ∷ ys) ≡ true
+unfolding anyOf
+occurs-later x y ys h = go (eqb x y)
+  where
+    go : (t : Bool) → cond t true (anyOf (eqb x) ys) ≡ true
+    go true = refl
+    go false = h
+
+occurs-past : (x y z : ℕ) (ys : List ℕ) → anyOf (eqb x) (y ∷ ys) ≡ true → anyOf (eqb x) (y ∷ (z ∷ ys)) ≡ true
+unfolding anyOf
+occurs-past x y z ys h = go (eqb x y) h
+  where
+    go : (t : Bool) → cond t true (anyOf (eqb x) ys) ≡ true → cond t true (anyOf (eqb x) (z ∷ ys)) ≡ true
+    go true e = refl
+    go false e = occurs-later x z ys e
+
+first-among : (rs : List Row) → anyOf (eqb (firstRow rs)) (0 ∷ map (λ r. r .number) rs) ≡ true
+unfolding firstRow
+first-among [] = occurs-here 0 []
+first-among (r ∷ rs) = go (r .applies) (first-among rs)
+  where
+    go : (t : Bool) → anyOf (eqb (firstRow rs)) (0 ∷ map (λ x. x .number) rs) ≡ true
+        → anyOf (eqb (cond t (r .number) (firstRow rs))) (0 ∷ (r .number ∷ map (λ x. x .number) rs)) ≡ true
+    go true ih = occurs-later (r .number) 0 _ (occurs-here (r .number) _)
+    go false ih = occurs-past (firstRow rs) 0 (r .number) _ ih
+
+outcome-occurs : (s : List ℕ) → anyOf (eqb (shareOutcome s)) shareNumbers ≡ true
+unfolding shareOutcome headRows bodyRows
+outcome-occurs s = first-among (headRows s ++ bodyRows s)
+
+-- ---- a share by itself
+module _ (s : List ℕ) (z : shareOutcome s ≡ 0) where
+  inside : (i : ℕ) → i < 6 → Inside (boundsOf s) (length s) i
+  inside i h = bounds-inside s i (outcome-ordered s z) h
+
+  part-then : (i : ℕ) (t : List ℕ) → i < 6 → t ≡ drop (getD (boundsOf s) (suc i) 0) s
+      → partOf i (boundsOf s) s ++ t ≡ drop (getD (boundsOf s) i 0) s
+  part-then i t h e = part-on (boundsOf s) s i (inside i h) t e
+
+  joined : take keyAt s
+      ++ (partOf 0 (boundsOf s) s
+      ++ (partOf 1 (boundsOf s) s
+      ++ (partOf 2 (boundsOf s) s
+      ++ (partOf 3 (boundsOf s) s
+      ++ (partOf 4 (boundsOf s) s
+      ++ partOf 5 (boundsOf s) s)))))
+      ≡ s
+  unfolding boundsOf
+  joined =
+      let w : [] ≡ drop (endAt s) s = rw (order-facts s (outcome-ordered s z) .whole) (sym (drop-length s)) in
+      let e = sym (append-nil (partOf 5 (boundsOf s) s)) ∙ part-then 5 [] (omega arith) w in
+      let d = part-then 4 _ (omega arith) e in
+      let c = part-then 3 _ (omega arith) d in
+      let b = part-then 2 _ (omega arith) c in
+      let a = part-then 1 _ (omega arith) b in
+      ap (λ (l : List ℕ). take keyAt s ++ l) (part-then 0 _ (omega arith) a) ∙ take-append-drop keyAt s
+
+  in-turn : InTurn s
+  unfolding sharePart partAt
+  in-turn =
+      let b = checked-bounds s z in
+      record {
+        first = rw b (first-bound s);
+        next = λ i h. rw b (part-length (boundsOf s) s i (inside i h));
+        last = rw b (last-bound s (outcome-ordered s z));
+        whole = rw b joined;
+      }
+
+share-refused : (s : List ℕ) → (shareOutcome s ≡ 0 → ⊥) → (i : ℕ) → i < 6 → (sharePart i s ≡ []) × (partAt i s ≡ 0)
+unfolding sharePart partAt checkedOf
+share-refused s n i h = rw (← checked-refused 0 _ s refl n) (none-empty (shareOutcome s) i s h)
+
+pub demand1-share : (s : List ℕ) → Demand1Share s
+unfolding checkedOf
+demand1-share s =
+    let n = checked-number 0 s in
+    record {
+      number = rw n (outcome-occurs s);
+      refused = λ r i h. share-refused s (λ z. r (n ∙ z)) i h;
+      accepted = λ z. in-turn s (sym n ∙ z);
+    }
+
+-- ---- a share in a container
+lent-occurs : (c : List ℕ) → anyOf (eqb (lentOf c .number)) containerNumbers ≡ true
+unfolding anyOf
+lent-occurs c = lent-number c (λ n. anyOf (eqb n) containerNumbers ≡ true) refl refl refl
+
+container-occurs : (c : List ℕ) → anyOf (eqb (checkedContainer c .number)) containerNumbers ≡ true
+container-occurs c = go (eqb (lentOf c .number) 0) refl
+  where
+    go : (t : Bool) → eqb (lentOf c .number) 0 ≡ t → anyOf (eqb (checkedContainer c .number)) containerNumbers ≡ true
+    go true e =
+        let n = shareOutcome (dataLent c) in
+        rw (container-zero c (eqb-true _ _ e), checked-number (lentOf c .from) (dataLent c))
+        (occurs-later n 1 _ (occurs-later n 2 _ (outcome-occurs (dataLent c))))
+    go false e = rw (container-refused c (eqb-false _ _ e)) (lent-occurs c)
+
+container-refuses : (c : List ℕ) → (checkedContainer c .number ≡ 0 → ⊥) → (i : ℕ) → i < 6
+    → (containerPart i c ≡ []) × (containerPartAt i c ≡ 0)
+unfolding containerPart containerPartAt
+container-refuses c n i h = rw (container-none c n) (none-empty (checkedContainer c .number) i c h)
+
+module _ (c : List ℕ) (z : checkedContainer c .number ≡ 0) (i : ℕ) (h : i < 6) where
+  moved-place : containerPartAt i c ≡ lentOf c .from + partAt i (dataLent c)
+  unfolding containerPartAt partAt
+  moved-place =
+      let s = container-shares c z in
+      rw (s .1, checked-bounds (dataLent c) (s .0)) (bounds-moved (lentOf c .from) (dataLent c) i (omega arith))
+
+  moved-part : containerPart i c ≡ sharePart i (dataLent c)
+  unfolding containerPart sharePart partOf
+  moved-part =
+      let s = container-shares c z in
+      let f : ℕ = lentOf c .from in
+      let a : ℕ = getD (boundsOf (dataLent c)) i 0 in
+      let e : ℕ = getD (boundsOf (dataLent c)) (suc i) 0 in
+      let r = risen (boundsOf (dataLent c)) (dataLent c) i (inside (dataLent c) (s .0) i h) in
+      let m : f + e - (f + a) ≡ e - a = omega arith in
+      let w : a + (e - a) ≤ lentOf c .to - f = omega (arith, lends c .ends, r .0, r .1) in
+      let ma = bounds-moved f (dataLent c) i (omega arith) in
+      let me = bounds-moved f (dataLent c) (suc i) (omega arith) in
+      rw (s .1, checked-bounds (dataLent c) (s .0), ma, me, m, ← drop-drop a f c)
+      (sym (part-within a (e - a) (lentOf c .to - f) (drop f c) w)
+      ∙ ap (λ (l : List ℕ). take (e - a) (drop a l)) (lends c .bytes))
+
+pub demand1-container : (c : List ℕ) → Demand1Container c
+demand1-container c =
+    record {
+      number = container-occurs c;
+      refused = container-refuses c;
+      accepted = λ z i h. (moved-part c z i h, moved-place c z i h);
+    }

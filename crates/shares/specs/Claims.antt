@@ -1,0 +1,69 @@
+-- What is claimed of the share checks (demand 1), and what two of the definitions mean. Proved in proofs/.
+use mathlib.Core.Path.{_≡_}
+use Prim.Native.Nat.{ℕ, suc, _+_, _%_, _≤_, _<_}
+use mathlib.Core.Bool.{true}
+use mathlib.Core.List.{List, [], _∷_, _++_}
+use lib.ListN.{length, take}
+use Rattle.container.specs.Data.{lentOf, dataLent}
+use Rattle.shares.specs.Header.{keyAt}
+use Rattle.shares.specs.Nodes.{depth, power}
+use Rattle.shares.specs.Rows.{leastMultiple}
+use Rattle.shares.specs.Checked.{checkedOf, sharePart, partAt, checkedContainer, containerPart, containerPartAt}
+use Rattle.octets.specs.Lists.{Among}
+
+-- The numbers of the table for a share, and for a container that holds one.
+abbrev pub shareNumbers : List ℕ
+shareNumbers = 0 ∷ 21 ∷ 22 ∷ 23 ∷ 24 ∷ 25 ∷ 26 ∷ 27 ∷ 28 ∷ 29 ∷ []
+
+abbrev pub containerNumbers : List ℕ
+containerNumbers = 1 ∷ 2 ∷ shareNumbers
+
+-- The six parts lie one after the other, from the header's end to the share's last byte.
+pub record InTurn (s : List ℕ) : Type 0 where
+  -- the first begins at the header's end
+  pub first : partAt 0 s ≡ keyAt
+  -- each ends where the next begins
+  pub next : (i : ℕ) → i < 6 → partAt i s + length (sharePart i s) ≡ partAt (suc i) s
+  -- the last ends with the share
+  pub last : partAt 6 s ≡ length s
+  -- header and parts are the share
+  pub whole :
+      take keyAt s
+      ++ (sharePart 0 s
+      ++ (sharePart 1 s
+      ++ (sharePart 2 s
+      ++ (sharePart 3 s
+      ++ (sharePart 4 s
+      ++ sharePart 5 s)))))
+      ≡ s
+
+-- Demand 1 of the check of a share, of any bytes.
+pub record Demand1Share (s : List ℕ) : Type 0 where
+  -- the call ends in a number of the table
+  pub number : Among (checkedOf s .number) shareNumbers
+  -- refused: every part is empty and stands at the slice's start
+  pub refused : (checkedOf s .number ≡ 0 → ⊥) → (i : ℕ) → i < 6 → (sharePart i s ≡ []) × (partAt i s ≡ 0)
+  -- accepted: nothing stands between the parts
+  pub accepted : checkedOf s .number ≡ 0 → InTurn s
+
+-- Demand 1 of the check of the share in a container, of any bytes.
+pub record Demand1Container (c : List ℕ) : Type 0 where
+  pub number : Among (checkedContainer c .number) containerNumbers
+  pub refused : (checkedContainer c .number ≡ 0 → ⊥) → (i : ℕ) → i < 6
+      → (containerPart i c ≡ []) × (containerPartAt i c ≡ 0)
+  -- accepted: the parts of the share that the data are, as parts of the container
+  pub accepted : checkedContainer c .number ≡ 0 → (i : ℕ) → i < 6
+      → (containerPart i c ≡ sharePart i (dataLent c)) × (containerPartAt i c ≡ lentOf c .from + partAt i (dataLent c))
+
+-- m is the least multiple of k at or above n.
+pub record Least (k n m : ℕ) : Type 0 where
+  pub multiple : m % k ≡ 0
+  pub reaches : n ≤ m
+  pub least : (x : ℕ) → x % k ≡ 0 → n ≤ x → m ≤ x
+
+abbrev pub MultipleIsLeast : Type 0
+MultipleIsLeast = (k n : ℕ) → 0 < k → Least k n (leastMultiple k n)
+
+-- The depth of the tree over n shares is the least c with n at most 2^c; n is a byte.
+abbrev pub DepthIsLeast : Type 0
+DepthIsLeast = (n : ℕ) → n ≤ 255 → (n ≤ power (depth n)) × ((c : ℕ) → n ≤ power c → depth n ≤ c)
