@@ -41,7 +41,10 @@ octets-magic = octets-digits 32 (number magic)
 octets-records : (n p : ℕ) (c : List ℕ) → Octets c → Each Octets (records n p c)
 unfolding records
 octets-records zero p c h = tt
-octets-records (suc n) p c h = (octets-take recordSize (drop p c) (octets-drop p c h), octets-records n (p + recordSize) c h)
+octets-records (suc n) p c h = (
+  octets-take recordSize (drop p c) (octets-drop p c h),
+  octets-records n (p + recordSize) c h,
+)
 
 -- ---- the encoding of parts made of bytes
 octets-encode : (p : Parts) → OctetParts p → Octets (encode p)
@@ -50,8 +53,10 @@ octets-encode p o =
     let e : ℕ = extras (p .leases) in
     let four : List ℕ = join (take fixedPlaces (p .leases)) in
     let more : List ℕ = join (drop fixedPlaces (p .leases)) in
-    let f : Octets four = octets-join (take fixedPlaces (p .leases)) (each-take Octets fixedPlaces (p .leases) (o .leases)) in
-    let m : Octets more = octets-join (drop fixedPlaces (p .leases)) (each-drop Octets fixedPlaces (p .leases) (o .leases)) in
+    let f : Octets four = octets-join (take fixedPlaces (p .leases)) (each-take Octets fixedPlaces (p .leases)
+    (o .leases)) in
+    let m : Octets more = octets-join (drop fixedPlaces (p .leases)) (each-drop Octets fixedPlaces (p .leases)
+    (o .leases)) in
     let rest : List (List ℕ) = four ∷ p .bytes ∷ digits 4 e ∷ more ∷ [] in
     let h : Each Octets rest = (f, (o .bytes, (octets-digits 4 e, (m, tt)))) in
     let z : ℕ = p .room - used p in

@@ -1,4 +1,5 @@
--- What the tests of the judging pass say, in the form in which the code reads the buffer, and what each answer of it means. Assumes nothing.
+-- What the tests of the judging pass say, in the form in which the code reads the buffer, and what each answer of it
+-- means. Assumes nothing.
 use mathlib.Core.Path.{_≡_, refl, sym, ap, _∙_}
 use mathlib.Core.Bool.{Bool, true, false, cond, not, _&&_}
 use mathlib.Core.Option.{none, some}
@@ -40,19 +41,22 @@ pub record-held : (p : ℕ) (c : List ℕ) → (numberAt 4 p c ≡ 0 → ⊥) �
 unfolding recordOk
 record-held p c h = rw (held-at p c, ne-eqb _ _ h)
 
-pub record-none : (p : ℕ) (c : List ℕ) → numberAt 4 p c ≡ 0 → recordOk (take recordSize (drop p c)) ≡ allZero (take recordSize (drop p c))
+pub record-none : (p : ℕ) (c : List ℕ) → numberAt 4 p c ≡ 0 → recordOk (take recordSize (drop p c))
+    ≡ allZero (take recordSize (drop p c))
 unfolding recordOk
 record-none p c h = rw (held-at p c, eq-eqb _ _ h)
 
 -- ---- the loop over records: a turn, a stop, the end
-pub records-more : (n p : ℕ) (c : List ℕ) → 0 < n → recordOk (take recordSize (drop p c)) ≡ true → every recordOk (records n p c) ≡ every recordOk (records (n - 1) (p + recordSize) c)
+pub records-more : (n p : ℕ) (c : List ℕ) → 0 < n → recordOk (take recordSize (drop p c)) ≡ true
+    → every recordOk (records n p c) ≡ every recordOk (records (n - 1) (p + recordSize) c)
 unfolding records every
 records-more zero p c h e = absurd (not-suc-le-zero h)
 records-more (suc n) p c h e =
     let k : suc n - 1 ≡ n = omega arith in
     rw (e, k)
 
-pub records-stop : (n p : ℕ) (c : List ℕ) → 0 < n → recordOk (take recordSize (drop p c)) ≡ false → every recordOk (records n p c) ≡ false
+pub records-stop : (n p : ℕ) (c : List ℕ) → 0 < n → recordOk (take recordSize (drop p c)) ≡ false
+    → every recordOk (records n p c) ≡ false
 unfolding records every
 records-stop zero p c h e = absurd (not-suc-le-zero h)
 records-stop (suc n) p c h e = rw e
@@ -67,7 +71,8 @@ pub last-none : (n p : ℕ) (c : List ℕ) → n ≡ 0 → lastHeld (records n p
 unfolding records lastHeld
 last-none n p c e = rw e
 
-pub last-some : (n p : ℕ) (c : List ℕ) → (n ≡ 0 → ⊥) → lastHeld (records n p c) ≡ not (eqb (numberAt 4 (p + recordSize * (n - 1)) c) 0)
+pub last-some : (n p : ℕ) (c : List ℕ) → (n ≡ 0 → ⊥) → lastHeld (records n p c)
+    ≡ not (eqb (numberAt 4 (p + recordSize * (n - 1)) c) 0)
 last-some zero p c h = absurd (h refl)
 last-some (suc n) p c h =
     let k : suc n - 1 ≡ n = omega arith in
@@ -106,7 +111,8 @@ unfolding extrasOf countAt
 extras-read c s o e p q r = rw p (ap (λ (n : ℕ). numberAt 4 n c) (sym q) ∙ sym r)
 
 -- ---- the contents, in the order in which the code tests them
-leases-ok : (c : List ℕ) → every recordOk (leasesOf c) ≡ (every recordOk (records fixedPlaces leasesAt c) && every recordOk (records (extrasOf c) (countAt (sizeOf c) + countSize) c))
+leases-ok : (c : List ℕ) → every recordOk (leasesOf c) ≡ (every recordOk (records fixedPlaces leasesAt c)
+    && every recordOk (records (extrasOf c) (countAt (sizeOf c) + countSize) c))
 unfolding leasesOf
 leases-ok c = every-append (records fixedPlaces leasesAt c) (records (extrasOf c) (countAt (sizeOf c) + countSize) c)
 
@@ -202,7 +208,8 @@ pub judged-malformed : (c : List ℕ) → Judges c Malformed → (lengthAllowed 
 unfolding firstRow
 judged-malformed c j = go (lengthAllowed c) (wellFormed c) refl refl (j .number)
   where
-    go : (l w : Bool) → lengthAllowed c ≡ l → wellFormed c ≡ w → _≡_ {A = ℕ} 2 (firstRow (row 1 (not l) ∷ row 2 (not w) ∷ []))
+    go : (l w : Bool) → lengthAllowed c ≡ l → wellFormed c ≡ w
+        → _≡_ {A = ℕ} 2 (firstRow (row 1 (not l) ∷ row 2 (not w) ∷ []))
         → (lengthAllowed c ≡ true) × (wellFormed c ≡ false)
     go true true g h q = absurd (omega arith)
     go true false g h q = (g, h)

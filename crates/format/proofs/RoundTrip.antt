@@ -1,4 +1,5 @@
--- The round trip: a well-formed container is the encoding of its parts, and valid parts are those of their encoding. Assumes nothing.
+-- The round trip: a well-formed container is the encoding of its parts, and valid parts are those of their encoding.
+-- Assumes nothing.
 use mathlib.Core.Path.{_≡_, refl, sym, ap, _∙_}
 use mathlib.Core.Bool.{true}
 use mathlib.Core.List.{List, [], _∷_, _++_, append-assoc}
@@ -39,26 +40,35 @@ ok-places (r ∷ ls) h e =
     let k = both _ _ e in
     (record { size = h .0; ok = k .0 }, ok-places ls (h .1) (k .1))
 
-pub records-sizes : (n p : ℕ) (c : List ℕ) → p + recordSize * n ≤ length c → Each (λ r. length r ≡ recordSize) (records n p c)
+pub records-sizes : (n p : ℕ) (c : List ℕ) → p + recordSize * n ≤ length c
+    → Each (λ r. length r ≡ recordSize) (records n p c)
 unfolding records
 records-sizes zero p c h = tt
-records-sizes (suc n) p c h = (length-take-le recordSize (drop p c) (rw length-drop (omega arith)), records-sizes n (p + recordSize) c (omega arith))
+records-sizes (suc n) p c h = (
+  length-take-le recordSize (drop p c) (rw length-drop (omega arith)),
+  records-sizes n (p + recordSize) c (omega arith),
+)
 
 -- ---- the leases of a container: the four, then the extras
 pub four-leases : (c : List ℕ) → take fixedPlaces (leasesOf c) ≡ records fixedPlaces leasesAt c
 unfolding leasesOf
-four-leases c = take-at (records fixedPlaces leasesAt c) (records (extrasOf c) (countAt (sizeOf c) + countSize) c) 4 (length-records fixedPlaces leasesAt c)
+four-leases c = take-at (records fixedPlaces leasesAt c) (records (extrasOf c) (countAt (sizeOf c) + countSize) c) 4
+    (length-records fixedPlaces leasesAt c)
 
-pub extra-leases : (c : List ℕ) → drop fixedPlaces (leasesOf c) ≡ records (extrasOf c) (countAt (sizeOf c) + countSize) c
+pub extra-leases : (c : List ℕ) → drop fixedPlaces (leasesOf c)
+    ≡ records (extrasOf c) (countAt (sizeOf c) + countSize) c
 unfolding leasesOf
-extra-leases c = drop-at (records fixedPlaces leasesAt c) (records (extrasOf c) (countAt (sizeOf c) + countSize) c) 4 (length-records fixedPlaces leasesAt c)
+extra-leases c = drop-at (records fixedPlaces leasesAt c) (records (extrasOf c) (countAt (sizeOf c) + countSize) c) 4
+    (length-records fixedPlaces leasesAt c)
 
-pub leases-sizes : (c : List ℕ) → usedLength (sizeOf c) (extrasOf c) ≤ length c → Each (λ r. length r ≡ recordSize) (leasesOf c)
+pub leases-sizes : (c : List ℕ) → usedLength (sizeOf c) (extrasOf c) ≤ length c
+    → Each (λ r. length r ≡ recordSize) (leasesOf c)
 unfolding leasesOf
 leases-sizes c h =
     let u = used-is (sizeOf c) (extrasOf c) in
     let k = count-is (sizeOf c) in
-    each-append _ (records fixedPlaces leasesAt c) _ (records-sizes 4 leasesAt c (omega arith)) (records-sizes (extrasOf c) (countAt (sizeOf c) + countSize) c (omega arith))
+    each-append _ (records fixedPlaces leasesAt c) _ (records-sizes 4 leasesAt c (omega arith))
+    (records-sizes (extrasOf c) (countAt (sizeOf c) + countSize) c (omega arith))
 
 -- ---- from the bytes: the parts are valid
 pub parts-used : (c : List ℕ) → wellFormed c ≡ true → used (partsOf c) ≡ usedLength (sizeOf c) (extrasOf c)
@@ -88,15 +98,19 @@ parts-valid c w =
 
 -- ---- from the bytes: they are the encoding of the parts
 -- A field of k bytes at a, then what follows it.
-pub field-then : (c : List ℕ) (a k b : ℕ) (x t : List ℕ) → a + k ≡ b → take k (drop a c) ≡ x → drop b c ≡ t → drop a c ≡ x ++ t
+pub field-then : (c : List ℕ) (a k b : ℕ) (x t : List ℕ) → a + k ≡ b → take k (drop a c) ≡ x → drop b c ≡ t → drop a c
+    ≡ x ++ t
 field-then c a k b x t e p q =
-    sym (take-append-drop k (drop a c)) ∙ ap (λ (l : List ℕ). l ++ drop k (drop a c)) p ∙ ap (λ (l : List ℕ). x ++ l) (drop-drop k a c ∙ ap (λ (n : ℕ). drop n c) e ∙ q)
+    sym (take-append-drop k (drop a c)) ∙ ap (λ (l : List ℕ). l ++ drop k (drop a c)) p
+    ∙ ap (λ (l : List ℕ). x ++ l) (drop-drop k a c ∙ ap (λ (n : ℕ). drop n c) e ∙ q)
 
 -- The bytes of a field are the digits of its number.
-pub digits-at : (c : List ℕ) (n a v : ℕ) → a + n ≤ length c → Octets c → numberAt n a c ≡ v → take n (drop a c) ≡ digits n v
+pub digits-at : (c : List ℕ) (n a v : ℕ) → a + n ≤ length c → Octets c → numberAt n a c ≡ v → take n (drop a c)
+    ≡ digits n v
 unfolding numberAt
 digits-at c n a v h o e =
-    sym (digits-number n (take n (drop a c)) (length-take-le n (drop a c) (rw length-drop (omega arith))) (octets-take n (drop a c) (octets-drop a c o))) ∙ ap (digits n) e
+    sym (digits-number n (take n (drop a c)) (length-take-le n (drop a c) (rw length-drop (omega arith)))
+    (octets-take n (drop a c) (octets-drop a c o))) ∙ ap (digits n) e
 
 pub size-field : (c : List ℕ) → numberAt 8 sizeAt c ≡ sizeOf c
 unfolding sizeOf
@@ -121,7 +135,8 @@ enabler-field c = refl
 pub four-field : (c : List ℕ) → take (fixedPlaces * recordSize) (drop leasesAt c) ≡ join (take fixedPlaces (leasesOf c))
 four-field c = sym (ap join (four-leases c) ∙ join-records fixedPlaces leasesAt c)
 
-pub extra-field : (c : List ℕ) → take (recordSize * extrasOf c) (drop (countAt (sizeOf c) + countSize) c) ≡ join (drop fixedPlaces (leasesOf c))
+pub extra-field : (c : List ℕ) → take (recordSize * extrasOf c) (drop (countAt (sizeOf c) + countSize) c)
+    ≡ join (drop fixedPlaces (leasesOf c))
 extra-field c = sym (ap join (extra-leases c) ∙ join-records (extrasOf c) (countAt (sizeOf c) + countSize) c)
 
 pub rest-field : (c : List ℕ) (a : ℕ) → allZero (drop a c) ≡ true → drop a c ≡ replicate (length c - a) 0
@@ -129,7 +144,14 @@ rest-field c a e = zeros-are (drop a c) e ∙ ap (λ (k : ℕ). replicate k 0) (
 
 -- The table, with the parts as they stand in the container.
 pub laid-out : (c : List ℕ) → wellFormed c ≡ true → Octets c
-    → c ≡ magic ++ (nodeOf c ++ (enablerOf c ++ (digits 8 (sizeOf c) ++ (digits 8 (countAt (sizeOf c)) ++ (join (take fixedPlaces (leasesOf c)) ++ (dataOf c ++ (digits 4 (extrasOf c) ++ (join (drop fixedPlaces (leasesOf c)) ++ replicate (length c - usedLength (sizeOf c) (extrasOf c)) 0))))))))
+    → c ≡ magic
+    ++ (nodeOf c
+    ++ (enablerOf c
+    ++ (digits 8 (sizeOf c)
+    ++ (digits 8 (countAt (sizeOf c)) ++ (join (take fixedPlaces (leasesOf c))
+    ++ (dataOf c
+    ++ (digits 4 (extrasOf c) ++ (join (drop fixedPlaces (leasesOf c))
+    ++ replicate (length c - usedLength (sizeOf c) (extrasOf c)) 0))))))))
 laid-out c w o =
     let s : ℕ = sizeOf c in
     let e : ℕ = extrasOf c in
@@ -138,11 +160,14 @@ laid-out c w o =
     let f = formed-facts c w in
     let h = f .fields in
     let z9 = rest-field c (usedLength s e) (f .contents .zeros) in
-    let z8 = field-then c (countAt s + countSize) (recordSize * e) (usedLength s e) _ _ (omega arith) (extra-field c) z9 in
-    let z7 = field-then c (countAt s) 4 (countAt s + countSize) _ _ refl (digits-at c 4 (countAt s) e (omega arith) o (extras-field c)) z8 in
+    let z8 = field-then c (countAt s + countSize) (recordSize * e) (usedLength s e) _ _ (omega arith)
+    (extra-field c) z9 in
+    let z7 = field-then c (countAt s) 4 (countAt s + countSize) _ _ refl (digits-at c 4 (countAt s) e (omega arith) o
+    (extras-field c)) z8 in
     let z6 = field-then c dataAt s (countAt s) _ _ (sym k) (data-field c) z7 in
     let z5 = field-then c leasesAt (fixedPlaces * recordSize) dataAt _ _ refl (four-field c) z6 in
-    let z4 = field-then c offsetAt 8 leasesAt _ _ refl (digits-at c 8 offsetAt (countAt s) (omega arith) o (h .offset)) z5 in
+    let z4 = field-then c offsetAt 8 leasesAt _ _ refl (digits-at c 8 offsetAt (countAt s) (omega arith) o
+    (h .offset)) z5 in
     let z3 = field-then c sizeAt 8 offsetAt _ _ refl (digits-at c 8 sizeAt s (omega arith) o (size-field c)) z4 in
     let z2 = field-then c enablerAt 32 sizeAt _ _ refl (enabler-field c) z3 in
     let z1 = field-then c nodeAt 20 enablerAt _ _ refl (node-field c) z2 in
@@ -177,19 +202,27 @@ encode-parts c w o =
     let k : fixedPlaces + extrasOf c - fixedPlaces ≡ extrasOf c = omega arith in
     encode-flat (partsOf c) ∙ rw (data-length c w, length-leases c, k) (sym (laid-out c w o))
 
-pub parts-determine : (b c : List ℕ) → wellFormed b ≡ true → wellFormed c ≡ true → Octets b → Octets c → partsOf b ≡ partsOf c → b ≡ c
+pub parts-determine : (b c : List ℕ) → wellFormed b ≡ true → wellFormed c ≡ true → Octets b → Octets c → partsOf b
+    ≡ partsOf c → b ≡ c
 parts-determine b c wb wc ob oc e = sym (encode-parts b wb ob) ∙ ap encode e ∙ encode-parts c wc oc
 
 -- ---- from the parts
 -- A field read back, and what follows it.
-pub field-back : (c : List ℕ) (k n j : ℕ) (m t : List ℕ) → drop k c ≡ m ++ t → length m ≡ n → k + n ≡ j → (take n (drop k c) ≡ m) × (drop j c ≡ t)
-field-back c k n j m t e l q = (rw e (take-at m t n l), ap (λ (i : ℕ). drop i c) (sym q) ∙ sym (drop-drop n k c) ∙ rw e (drop-at m t n l))
+pub field-back : (c : List ℕ) (k n j : ℕ) (m t : List ℕ) → drop k c ≡ m ++ t → length m ≡ n → k + n ≡ j
+    → (take n (drop k c) ≡ m) × (drop j c ≡ t)
+field-back c k n j m t e l q = (
+  rw e (take-at m t n l),
+  ap (λ (i : ℕ). drop i c) (sym q) ∙ sym (drop-drop n k c)
+      ∙ rw e (drop-at m t n l),
+)
 
 -- Joined records read back.
-pub records-back : (n a : ℕ) (c : List ℕ) (ls : List (List ℕ)) (t : List ℕ) → drop a c ≡ join ls ++ t → length ls ≡ n → Each (λ r. length r ≡ recordSize) ls → records n a c ≡ ls
+pub records-back : (n a : ℕ) (c : List ℕ) (ls : List (List ℕ)) (t : List ℕ) → drop a c ≡ join ls ++ t → length ls ≡ n
+    → Each (λ r. length r ≡ recordSize) ls → records n a c ≡ ls
 records-back n a c ls t e l h =
     let k : a ≡ a + 0 = omega arith in
-    ap (λ (i : ℕ). records n i c) k ∙ records-shift n a 0 c ∙ ap (records n 0) e ∙ ap (λ (m : ℕ). records m 0 (join ls ++ t)) (sym l) ∙ records-join ls t h
+    ap (λ (i : ℕ). records n i c) k ∙ records-shift n a 0 c ∙ ap (records n 0) e
+    ∙ ap (λ (m : ℕ). records m 0 (join ls ++ t)) (sym l) ∙ records-join ls t h
 
 -- What stands where in the encoding of the parts, with s bytes of data and e extras.
 pub record Written (p : Parts) (s e : ℕ) (c : List ℕ) : Type 0 where
@@ -202,7 +235,8 @@ pub record Written (p : Parts) (s e : ℕ) (c : List ℕ) : Type 0 where
   pub four : drop leasesAt c ≡ join (take fixedPlaces (p .leases)) ++ after-offset
   pub bytes : take s (drop dataAt c) ≡ p .bytes
   pub count : take 4 (drop (countAt s) c) ≡ digits 4 e
-  pub more : drop (countAt s + countSize) c ≡ join (drop fixedPlaces (p .leases)) ++ replicate (p .room - usedLength s e) 0
+  pub more : drop (countAt s + countSize) c ≡ join (drop fixedPlaces (p .leases))
+      ++ replicate (p .room - usedLength s e) 0
   pub rest : drop (usedLength s e) c ≡ replicate (p .room - usedLength s e) 0
 
 module _ (p : Parts) (v : Valid p) where
@@ -229,7 +263,15 @@ module _ (p : Parts) (v : Valid p) where
   pub length-encode : length (encode p) ≡ p .room
   unfolding used
   length-encode =
-      rw encode-flat (simp (length-append, length-digits, length-replicate, four-bytes, extra-bytes, v .node-size, v .enabler-size) (omega (arith, room-used, used-is (length (p .bytes)) (extras (p .leases)))))
+      rw encode-flat (simp (
+        length-append,
+        length-digits,
+        length-replicate,
+        four-bytes,
+        extra-bytes,
+        v .node-size,
+        v .enabler-size,
+      ) (omega (arith, room-used, used-is (length (p .bytes)) (extras (p .leases)))))
 
   pub written : Written p (length (p .bytes)) (extras (p .leases)) (encode p)
   unfolding used
@@ -242,31 +284,57 @@ module _ (p : Parts) (v : Valid p) where
       let z2 = field-back c enablerAt 32 sizeAt (p .enabler) _ (z1 .1) (v .enabler-size) refl in
       let z3 = field-back c sizeAt 8 offsetAt (digits 8 s) _ (z2 .1) (length-digits 8 s) refl in
       let z4 = field-back c offsetAt 8 leasesAt (digits 8 (countAt s)) _ (z3 .1) (length-digits 8 (countAt s)) refl in
-      let z5 = field-back c leasesAt (fixedPlaces * recordSize) dataAt (join (take fixedPlaces (p .leases))) _ (z4 .1) four-bytes refl in
+      let z5 = field-back c leasesAt (fixedPlaces * recordSize) dataAt (join (take fixedPlaces (p .leases))) _
+      (z4 .1) four-bytes refl in
       let z6 = field-back c dataAt s (countAt s) (p .bytes) _ (z5 .1) refl (sym (count-is s)) in
       let z7 = field-back c (countAt s) 4 (countAt s + countSize) (digits 4 e) _ (z6 .1) (length-digits 4 e) refl in
       let q : countAt s + countSize + recordSize * e ≡ usedLength s e = omega (arith, count-is s, used-is s e) in
-      let z8 = field-back c (countAt s + countSize) (recordSize * e) (usedLength s e) (join (drop fixedPlaces (p .leases))) _ (z7 .1) extra-bytes q in
-      record { magical = z0 .0; node = z1 .0; enabler = z2 .0; size = z3 .0; offset = z4 .0; after-offset = _; four = z4 .1; bytes = z6 .0; count = z7 .0; more = z7 .1; rest = z8 .1 }
+      let z8 = field-back c (countAt s + countSize) (recordSize * e) (usedLength s e)
+      (join (drop fixedPlaces (p .leases))) _ (z7 .1) extra-bytes q in
+      record {
+        magical = z0 .0;
+        node = z1 .0;
+        enabler = z2 .0;
+        size = z3 .0;
+        offset = z4 .0;
+        after-offset = _;
+        four =
+            z4 .1;
+        bytes = z6 .0;
+        count = z7 .0;
+        more = z7 .1;
+        rest = z8 .1;
+      }
 
   -- what the fields of the encoding say
   pub size-encode : sizeOf (encode p) ≡ length (p .bytes)
   unfolding sizeOf numberAt
   size-encode =
       let h : 256 ^ 8 ≡ 18446744073709551616 = refl in
-      ap number (written .size) ∙ number-digits 8 (length (p .bytes)) (omega (arith, room-used, used-is (length (p .bytes)) (extras (p .leases)), v .at-most))
+      ap number (written .size)
+      ∙ number-digits 8 (length (p .bytes))
+      (omega (arith, room-used, used-is (length (p .bytes)) (extras (p .leases)), v .at-most))
 
   pub offset-encode : numberAt 8 offsetAt (encode p) ≡ countAt (length (p .bytes))
   unfolding numberAt
   offset-encode =
       let h : 256 ^ 8 ≡ 18446744073709551616 = refl in
-      ap number (written .offset) ∙ number-digits 8 (countAt (length (p .bytes))) (omega (arith, room-used, count-is (length (p .bytes)), used-is (length (p .bytes)) (extras (p .leases)), v .at-most))
+      ap number (written .offset)
+      ∙ number-digits 8 (countAt (length (p .bytes))) (omega (
+        arith,
+        room-used,
+        count-is (length (p .bytes)),
+        used-is (length (p .bytes)) (extras (p .leases)),
+        v .at-most,
+      ))
 
   pub extras-encode : extrasOf (encode p) ≡ extras (p .leases)
   unfolding extrasOf numberAt
   extras-encode =
       let h : 256 ^ 4 ≡ 4294967296 = refl in
-      rw size-encode (ap number (written .count) ∙ number-digits 4 (extras (p .leases)) (omega (arith, room-used, used-is (length (p .bytes)) (extras (p .leases)), v .at-most)))
+      rw size-encode (ap number (written .count)
+      ∙ number-digits 4 (extras (p .leases))
+      (omega (arith, room-used, used-is (length (p .bytes)) (extras (p .leases)), v .at-most)))
 
   pub node-encode : nodeOf (encode p) ≡ p .node
   unfolding nodeOf
@@ -281,10 +349,13 @@ module _ (p : Parts) (v : Valid p) where
   data-encode = rw size-encode (written .bytes)
 
   four-encode : records fixedPlaces leasesAt (encode p) ≡ take fixedPlaces (p .leases)
-  four-encode = records-back 4 leasesAt (encode p) (take fixedPlaces (p .leases)) (written .after-offset) (written .four) four-long (each-take _ 4 (p .leases) sizes)
+  four-encode = records-back 4 leasesAt (encode p) (take fixedPlaces (p .leases)) (written .after-offset)
+      (written .four) four-long (each-take _ 4 (p .leases) sizes)
 
-  more-encode : records (extras (p .leases)) (countAt (length (p .bytes)) + countSize) (encode p) ≡ drop fixedPlaces (p .leases)
-  more-encode = records-back (extras (p .leases)) (countAt (length (p .bytes)) + countSize) (encode p) (drop fixedPlaces (p .leases)) _ (written .more) extras-long (each-drop _ 4 (p .leases) sizes)
+  more-encode : records (extras (p .leases)) (countAt (length (p .bytes)) + countSize) (encode p)
+      ≡ drop fixedPlaces (p .leases)
+  more-encode = records-back (extras (p .leases)) (countAt (length (p .bytes)) + countSize) (encode p)
+      (drop fixedPlaces (p .leases)) _ (written .more) extras-long (each-drop _ 4 (p .leases) sizes)
 
   pub leases-encode : leasesOf (encode p) ≡ p .leases
   unfolding leasesOf
@@ -311,18 +382,26 @@ module _ (p : Parts) (v : Valid p) where
   contents-encode = record {
     records = rw leases-encode (places-ok (p .leases) (v .places));
     last = rw leases-encode (v .last);
-    zeros = rw (size-encode, extras-encode, written .rest) (allZero-replicate (p .room - usedLength (length (p .bytes)) (extras (p .leases))));
+    zeros = rw (size-encode, extras-encode, written .rest)
+        (allZero-replicate (p .room - usedLength (length (p .bytes)) (extras (p .leases))));
   }
 
   pub encode-formed : wellFormed (encode p) ≡ true
-  encode-formed = formed-true (encode p) (record { least-length = rw length-encode (v .at-least); most = rw length-encode (v .at-most); fields = fields-encode; contents = contents-encode })
+  encode-formed = formed-true (encode p) (record {
+    least-length = rw length-encode (v .at-least);
+    most =
+        rw length-encode (v .at-most);
+    fields = fields-encode;
+    contents = contents-encode;
+  })
 
 -- ---- a fresh container
 pub no-lease : Place noLease
 unfolding noLease recordOk held ownerOf numberAt number numberAfter allZero
 no-lease = record { size = refl; ok = refl }
 
-pub fresh-valid : (n : ℕ) (node enabler : List ℕ) → least ≤ n → n ≤ limit → length node ≡ 20 → length enabler ≡ 32 → Valid (fresh n node enabler)
+pub fresh-valid : (n : ℕ) (node enabler : List ℕ) → least ≤ n → n ≤ limit → length node ≡ 20 → length enabler ≡ 32
+    → Valid (fresh n node enabler)
 unfolding fresh used extras usedLength countAt lastHeld
 fresh-valid n node enabler a b e f = record {
   at-least = a;

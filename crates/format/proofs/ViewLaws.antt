@@ -1,5 +1,5 @@
--- The one view of a container's bytes, head, data, tail and zeros: the encoding of parts has it, and a change to head, data
--- or tail keeps it. Assumes nothing.
+-- The one view of a container's bytes, head, data, tail and zeros: the encoding of parts has it, and a change to
+-- head, data or tail keeps it. Assumes nothing.
 use mathlib.Core.Path.{_≡_, refl, sym, ap, _∙_}
 use mathlib.Core.List.{List, _++_, append-assoc}
 use Prim.Native.Nat.{ℕ, _+_, _-_, _*_, _≤_}
@@ -71,7 +71,8 @@ module _ (c : List ℕ) (f : Frame) (k : Known c f) where
   encoded-known = rw used-known
 
   pub formed-laid : Octets c
-      → Laid (length c) (f .size) (countSize + recordSize * f .extras) c (headOf (partsOf c)) (dataOf c) (tailOf (partsOf c))
+      → Laid (length c) (f .size) (countSize + recordSize * f .extras) c (headOf (partsOf c)) (dataOf c)
+      (tailOf (partsOf c))
   formed-laid o = record {
     is = sym (encode-parts c (k .formed) o) ∙ encoded-known;
     head = length-head (partsOf c) (parts-valid c (k .formed));
@@ -102,14 +103,16 @@ module _ {n s k : ℕ} {c h d t : List ℕ} (l : Laid n s k c h d t) where
       }
 
   -- bytes put into the tail, i bytes behind its beginning
-  pub put-tail : (at i : ℕ) (r : List ℕ) → at ≡ dataAt + s + i → i + length r ≤ k → Laid n s k (put at r c) h d (put i r t)
+  pub put-tail : (at i : ℕ) (r : List ℕ) → at ≡ dataAt + s + i → i + length r ≤ k
+      → Laid n s k (put at r c) h d (put i r t)
   put-tail at i r a e =
       let j : i + length r ≤ length t = omega (arith, l .tail) in
       record {
         is =
             ap (put at r) (l .is) ∙ put-right at (s + i) r h (d ++ (t ++ zeros)) (omega (arith, l .head))
             ∙ ap (λ (x : List ℕ). h ++ x)
-            (put-right (s + i) i r d (t ++ zeros) (omega (arith, l .sized)) ∙ ap (λ (x : List ℕ). d ++ x) (put-left i r t zeros j));
+            (put-right (s + i) i r d (t ++ zeros) (omega (arith, l .sized))
+            ∙ ap (λ (x : List ℕ). d ++ x) (put-left i r t zeros j));
         head = l .head;
         sized = l .sized;
         tail = put-length i r t j ∙ l .tail;
@@ -129,7 +132,8 @@ module _ {n s k : ℕ} {c h d t : List ℕ} (l : Laid n s k c h d t) where
             (put-right (s + k) k r d (t ++ zeros) (omega (arith, l .sized))
             ∙ ap (λ (x : List ℕ). d ++ x)
             (put-right k 0 r t zeros (omega (arith, l .tail))
-            ∙ ap (λ (x : List ℕ). t ++ x) (put-zeros (n - (dataAt + s + k)) m r z) ∙ sym (append-assoc t r (replicate m 0))));
+            ∙ ap (λ (x : List ℕ). t ++ x) (put-zeros (n - (dataAt + s + k)) m r z)
+            ∙ sym (append-assoc t r (replicate m 0))));
         head = l .head;
         sized = l .sized;
         tail = length-append t r ∙ omega (arith, l .tail);
@@ -147,7 +151,8 @@ module _ {n s k : ℕ} {c h d t : List ℕ} (l : Laid n s k c h d t) where
             l .is
             ∙ ap (λ (x : List ℕ). h ++ (d ++ x))
             (ap (λ (x : List ℕ). x ++ zeros) e ∙ append-assoc u (replicate j 0) zeros
-            ∙ ap (λ (x : List ℕ). u ++ x) (sym (zeros-split j (n - (dataAt + s + k))) ∙ ap (λ (i : ℕ). replicate i 0) z));
+            ∙ ap (λ (x : List ℕ). u ++ x) (sym (zeros-split j (n - (dataAt + s + k)))
+            ∙ ap (λ (i : ℕ). replicate i 0) z));
         head = l .head;
         sized = l .sized;
         tail = omega arith;

@@ -55,9 +55,6 @@ pub contents-true : (c : List ℕ) → Contents c → contentsOk c ≡ true
 unfolding contentsOk
 contents-true c h = rw (h .records, h .last, h .zeros)
 
-pub contents-false : (c : List ℕ) → (Contents c → ⊥) → contentsOk c ≡ false
-contents-false c k = by-refuting (contentsOk c) (λ e. k (contents-facts c e))
-
 -- ---- the whole
 pub record Formed (c : List ℕ) : Type 0 where
   pub least-length : least ≤ length c
@@ -71,14 +68,22 @@ formed-facts c e =
     let a = both _ _ e in
     let l = both _ _ (a .0) in
     let b = both _ _ (a .1) in
-    record { least-length = leb-true _ _ (l .0); most = leb-true _ _ (l .1); fields = fields-facts c (b .0); contents = contents-facts c (b .1) }
+    record {
+      least-length = leb-true _ _ (l .0);
+      most = leb-true _ _ (l .1);
+      fields = fields-facts c (b .0);
+      contents =
+          contents-facts c (b .1);
+    }
 
 pub formed-true : (c : List ℕ) → Formed c → wellFormed c ≡ true
 unfolding wellFormed lengthAllowed
-formed-true c h = rw (le-leb _ _ (h .least-length), le-leb _ _ (h .most), fields-true c (h .fields), contents-true c (h .contents))
-
-pub formed-false : (c : List ℕ) → (Formed c → ⊥) → wellFormed c ≡ false
-formed-false c k = by-refuting (wellFormed c) (λ e. k (formed-facts c e))
+formed-true c h = rw (
+  le-leb _ _ (h .least-length),
+  le-leb _ _ (h .most),
+  fields-true c (h .fields),
+  contents-true c (h .contents),
+)
 
 -- ---- the table in numbers
 pub count-is : (s : ℕ) → countAt s ≡ dataAt + s
@@ -111,9 +116,11 @@ unfolding records
 records-shift zero a p c = refl
 records-shift (suc n) a p c =
     let k : a + p + recordSize ≡ a + (p + recordSize) = omega arith in
-    rw (drop-drop p a c, k) (ap (λ (l : List (List ℕ)). take recordSize (drop (a + p) c) ∷ l) (records-shift n a (p + recordSize) c))
+    rw (drop-drop p a c, k) (ap (λ (l : List (List ℕ)). take recordSize (drop (a + p) c)
+    ∷ l) (records-shift n a (p + recordSize) c))
 
-pub record-at : (n p i : ℕ) (c : List ℕ) → i < n → getD (records n p c) i [] ≡ take recordSize (drop (p + recordSize * i) c)
+pub record-at : (n p i : ℕ) (c : List ℕ) → i < n → getD (records n p c) i []
+    ≡ take recordSize (drop (p + recordSize * i) c)
 unfolding records
 record-at zero p i c h = absurd (not-suc-le-zero h)
 record-at (suc n) p zero c h =
@@ -123,7 +130,8 @@ record-at (suc n) p (suc i) c h =
     let k : p + recordSize + recordSize * i ≡ p + recordSize * suc i = omega arith in
     record-at n (p + recordSize) i c (omega arith) ∙ rw k
 
-pub lastHeld-records : (n p : ℕ) (c : List ℕ) → lastHeld (records (suc n) p c) ≡ held (take recordSize (drop (p + recordSize * n) c))
+pub lastHeld-records : (n p : ℕ) (c : List ℕ) → lastHeld (records (suc n) p c)
+    ≡ held (take recordSize (drop (p + recordSize * n) c))
 unfolding records lastHeld
 lastHeld-records zero p c =
     let k : p + recordSize * 0 ≡ p = omega arith in
@@ -135,11 +143,14 @@ lastHeld-records (suc n) p c =
 pub every-append : (a b : List (List ℕ)) → every recordOk (a ++ b) ≡ (every recordOk a && every recordOk b)
 unfolding every
 every-append [] b = refl
-every-append (r ∷ a) b = ap (λ (t : Bool). recordOk r && t) (every-append a b) ∙ sym (and-assoc (recordOk r) (every recordOk a) (every recordOk b))
+every-append (r ∷ a) b = ap (λ (t : Bool). recordOk r && t) (every-append a b)
+    ∙ sym (and-assoc (recordOk r) (every recordOk a) (every recordOk b))
 
 pub length-leases : (c : List ℕ) → length (leasesOf c) ≡ 4 + extrasOf c
 unfolding leasesOf
-length-leases c = length-append (records fixedPlaces leasesAt c) (records (extrasOf c) (countAt (sizeOf c) + countSize) c) ∙ rw (length-records fixedPlaces leasesAt c, length-records (extrasOf c) (countAt (sizeOf c) + countSize) c)
+length-leases c = length-append (records fixedPlaces leasesAt c)
+    (records (extrasOf c) (countAt (sizeOf c) + countSize) c)
+    ∙ rw (length-records fixedPlaces leasesAt c, length-records (extrasOf c) (countAt (sizeOf c) + countSize) c)
 
 -- ---- lease records, joined (records that reach past the end are cut short on both sides)
 pub join-records : (n p : ℕ) (c : List ℕ) → join (records n p c) ≡ take (recordSize * n) (drop p c)
@@ -147,22 +158,27 @@ unfolding records join
 join-records zero p c = refl
 join-records (suc n) p c =
     let k : recordSize * suc n ≡ recordSize + recordSize * n = omega arith in
-    rw (k, take-add recordSize (recordSize * n) (drop p c), drop-drop recordSize p c) (ap (λ (l : List ℕ). take recordSize (drop p c) ++ l) (join-records n (p + recordSize) c))
+    rw (k, take-add recordSize (recordSize * n) (drop p c), drop-drop recordSize p c)
+    (ap (λ (l : List ℕ). take recordSize (drop p c) ++ l) (join-records n (p + recordSize) c))
 
-pub length-join : (ls : List (List ℕ)) → Each (λ r. length r ≡ recordSize) ls → length (join ls) ≡ recordSize * length ls
+pub length-join : (ls : List (List ℕ)) → Each (λ r. length r ≡ recordSize) ls → length (join ls)
+    ≡ recordSize * length ls
 unfolding join
 length-join [] h = refl
 length-join (r ∷ ls) h = length-append r (join ls) ∙ rw (h .0, length-join ls (h .1)) (omega arith)
 
-pub records-join : (ls : List (List ℕ)) (t : List ℕ) → Each (λ r. length r ≡ recordSize) ls → records (length ls) 0 (join ls ++ t) ≡ ls
+pub records-join : (ls : List (List ℕ)) (t : List ℕ) → Each (λ r. length r ≡ recordSize) ls
+    → records (length ls) 0 (join ls ++ t) ≡ ls
 unfolding records join
 records-join [] t h = refl
 records-join (r ∷ ls) t h =
     let c : List ℕ = join ls ++ t in
-    let ih : records (length ls) recordSize (r ++ c) ≡ ls = records-shift (length ls) recordSize 0 (r ++ c) ∙ rw (drop-at r c recordSize (h .0)) (records-join ls t (h .1)) in
+    let ih : records (length ls) recordSize (r ++ c) ≡ ls = records-shift (length ls) recordSize 0 (r ++ c)
+    ∙ rw (drop-at r c recordSize (h .0)) (records-join ls t (h .1)) in
     rw (append-assoc r (join ls) t, take-at r c recordSize (h .0), ih)
 
 -- ---- data
 pub data-length : (c : List ℕ) → wellFormed c ≡ true → length (dataOf c) ≡ sizeOf c
 unfolding dataOf
-data-length c e = length-take-le (sizeOf c) (drop dataAt c) (rw length-drop (omega (arith, formed-facts c e .fields .fits, used-is (sizeOf c) (extrasOf c))))
+data-length c e = length-take-le (sizeOf c) (drop dataAt c)
+    (rw length-drop (omega (arith, formed-facts c e .fields .fits, used-is (sizeOf c) (extrasOf c))))

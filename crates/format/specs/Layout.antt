@@ -1,5 +1,6 @@
 -- The layout of a container (document 01, "The container"): a table of fields in one buffer, numbers big-endian.
--- Every definition is total: of bytes that are no container it says something, and `wellFormed` says that they are none.
+-- Every definition is total: of bytes that are no container it says something, and `wellFormed` says that they are
+-- none.
 use Prim.Native.Nat.{ℕ, zero, suc, _+_, _-_, _*_}
 use mathlib.Core.Bool.{cond}
 use mathlib.Core.List.{List, [], _∷_, _++_}

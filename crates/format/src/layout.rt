@@ -6,7 +6,7 @@ ghost use Rattle.format.specs.Layout.{countSize, leaseLimit, dataAt, lim
 // What a container begins with.
 pub const MAGIC: [u8; 32] = *b"tahoe mutable container v1\x0a\x75\x09\x44\x03\x8e";
 
-pub const MAGIC_SIZE: usize = 32;
+pub(crate) const MAGIC_SIZE: usize = 32;
 
 pub const NODE_SIZE: usize = 20;
 
@@ -29,7 +29,7 @@ pub const RECORD_SIZE: usize = CANCEL_AT + SECRET_SIZE + NODE_SIZE;
 
 pub const FIXED_PLACES: usize = 4;
 
-pub const EXTRA_LIMIT: usize = 60;
+pub(crate) const EXTRA_LIMIT: usize = 60;
 
 pub const LEASE_LIMIT: usize = FIXED_PLACES + EXTRA_LIMIT;
 

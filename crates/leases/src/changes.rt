@@ -27,7 +27,8 @@ pub(crate) fn extend(c: &mut [u8], frame: Frame, i: usize, expiry: u32)
 // The record goes to place i.
 pub(crate) fn put_record(c: &mut [u8], frame: Frame, i: usize, lease: &[u8])
     requires { ⌜ Known (now c) frame × (i < fixedPlaces + frame .extras) × (length (now lease) ≡ recordSize) ⌝ }
-    ensures { λ _. ⌜ now (c .exit) ≡ leasedAs (now (c .entry)) (set (leasesOf (now (c .entry))) i (now (lease .entry))) ⌝ }
+    ensures { λ _. ⌜ now (c .exit)
+        ≡ leasedAs (now (c .entry)) (set (leasesOf (now (c .entry))) i (now (lease .entry))) ⌝ }
 {
     let p = frame.place_at(i);
     octets::moves::copy_part(c, p, lease);
@@ -37,7 +38,8 @@ pub(crate) fn put_record(c: &mut [u8], frame: Frame, i: usize, lease: &[u8])
 pub(crate) fn append_record(c: &mut [u8], frame: Frame, lease: &[u8])
     requires { ⌜ Known (now c) frame × (usedLength (frame .size) (frame .extras + 1) ≤ length (now c))
         × (length (now lease) ≡ recordSize) ⌝ }
-    ensures { λ _. ⌜ now (c .exit) ≡ leasedAs (now (c .entry)) (leasesOf (now (c .entry)) ++ (now (lease .entry) ∷ [])) ⌝ }
+    ensures { λ _. ⌜ now (c .exit) ≡ leasedAs (now (c .entry)) (leasesOf (now (c .entry))
+        ++ (now (lease .entry) ∷ [])) ⌝ }
 {
     octets::moves::copy_part(c, frame.used(), lease);
     octets::numbers::put_u32(c, frame.count_at(), (frame.extras + 1) as u32);
@@ -47,7 +49,8 @@ pub(crate) fn append_record(c: &mut [u8], frame: Frame, lease: &[u8])
 // says so.
 pub(crate) fn drop_record(c: &mut [u8], frame: Frame, i: usize)
     requires { ⌜ Known (now c) frame × (i < fixedPlaces + frame .extras) ⌝ }
-    ensures { λ _. ⌜ now (c .exit) ≡ leasedAs (now (c .entry)) (dropTail (set (leasesOf (now (c .entry))) i noLease)) ⌝ }
+    ensures { λ _. ⌜ now (c .exit)
+        ≡ leasedAs (now (c .entry)) (dropTail (set (leasesOf (now (c .entry))) i noLease)) ⌝ }
 {
     let p = frame.place_at(i);
     octets::moves::clear_part(c, p, p + RECORD_SIZE);

@@ -28,7 +28,8 @@ fn is_held(c: &[u8], p: usize) -> bool
 
 // The place that begins at p holds a lease with that token in the bytes from `field` on; all of them are compared.
 fn has_token(c: &[u8], p: usize, field: usize, token: &[u8]) -> bool
-    requires { ⌜ (p + recordSize ≤ length (now c)) × (field + secretSize ≤ recordSize) × (length (now token) ≡ secretSize) ⌝ }
+    requires { ⌜ (p + recordSize ≤ length (now c)) × (field + secretSize ≤ recordSize)
+        × (length (now token) ≡ secretSize) ⌝ }
     ensures { λ r. ⌜ r ≡ hasToken field (now (token .entry)) (take recordSize (drop p (now (c .entry)))) ⌝ }
 {
     if !is_held(c, p) {

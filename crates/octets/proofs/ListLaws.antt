@@ -83,4 +83,5 @@ lastSaid-append {B = B} says [] b = go (lastSaid says b)
     go : (x : Option B) → x ≡ newer none x
     go (some v) = refl
     go none = refl
-lastSaid-append says (o ∷ a) b = rw (lastSaid-append says a b) (newer-assoc (says o) (lastSaid says a) (lastSaid says b))
+lastSaid-append says (o ∷ a) b =
+    rw (lastSaid-append says a b) (newer-assoc (says o) (lastSaid says a) (lastSaid says b))

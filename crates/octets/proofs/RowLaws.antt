@@ -20,7 +20,8 @@ clear n true rs h e = absurd (omega arith)
 clear n false rs h e = (refl, e)
 
 -- Of two lists, the first decides unless none of its rows applies.
-pub rows-append : (a b : List Row) → Numbered a → firstRow (a ++ b) ≡ cond (eqb (firstRow a) 0) (firstRow b) (firstRow a)
+pub rows-append : (a b : List Row) → Numbered a → firstRow (a ++ b)
+    ≡ cond (eqb (firstRow a) 0) (firstRow b) (firstRow a)
 unfolding firstRow
 rows-append [] b h = refl
 rows-append (r ∷ a) b h = go (r .applies) (rows-append a b (h .1))

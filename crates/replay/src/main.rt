@@ -1,4 +1,5 @@
-// Replays files of requests, one container after the other, and prints what each request was answered. docs/REPLAY.md has the layout of a file.
+// Replays files of requests, one container after the other, and prints what each request was answered. docs/REPLAY.md
+// has the layout of a file.
 mod running;
 mod showing;
 
@@ -6,7 +7,7 @@ mod showing;
 fn run_open(name: &[u8], file: i32) -> bool {
     let mut text = io::large_buffer();
     let n = io::read_full(file, &mut text);
-    if n == 65536 {
+    if n == text.len() {
         showing::write(name);
         showing::write(b": the file is longer than 65,535 bytes\n");
         return false;

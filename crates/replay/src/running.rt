@@ -13,8 +13,9 @@ use replaying::scanning::Sort;
 ghost use Prim.Native.Nat.{_≤_};
 ghost use lib.ListN.{length};
 
-// What lines before this one have set: the lengths of the container, the request, the node id and the enabler, which stand at the
-// front of their buffers, and the last answer. A length never exceeds its buffer; `clip` spares the proof of it.
+// What lines before this one have set: the lengths of the container, the request, the node id and the enabler, which
+// stand at the front of their buffers, and the last answer. A length never exceeds its buffer; `clip` spares the
+// proof of it.
 struct State {
     open: bool,
     length: usize,

@@ -6,7 +6,8 @@ use Prim.Native.Nat.{ℕ, suc, _+_, _-_, _≤_, _<_}
 use native.Mathlib.Nat.{add-zero}
 use native.Mathlib.Omega.{arith}
 use lib.Dec.{eqb, ltb}
-use lib.ListN.{length, take, drop, getD, replicate, take-append-drop, length-append, length-take, length-drop, length-replicate}
+use lib.ListN.{length, take, drop, getD, replicate, take-append-drop, length-append, length-take, length-drop}
+use lib.ListN.{length-replicate}
 use borrow.Author.Tests.{ltb-true}
 use Rattle.octets.specs.Numbers.{digits}
 use Rattle.octets.specs.Moves.{put}
@@ -25,7 +26,8 @@ pub stands-inside : (s : List ℕ) (at b : ℕ) → standsAt s at b ≡ true →
 unfolding standsAt
 stands-inside s at b e = go (ltb at (length s)) refl e
   where
-    go : (t : Bool) → ltb at (length s) ≡ t → mathlib.Core.Bool.cond t (eqb (getD s at 0) b) false ≡ true → at < length s
+    go : (t : Bool) → ltb at (length s) ≡ t → mathlib.Core.Bool.cond t (eqb (getD s at 0) b) false ≡ true
+        → at < length s
     go true q h = ltb-true at (length s) q
     go false q h = absurd (false≢true h)
 
@@ -52,15 +54,18 @@ module _ (s : List ℕ) (at : ℕ) where
   unfolding lineBytes bytesThen
   line-end e n = rw e
 
-  pub line-repeat : (b k next : ℕ) → itemAt s at ≡ Repeat b k next → (n : ℕ) → lineBytes (suc n) s at ≡ replicate k b ++ lineBytes n s next
+  pub line-repeat : (b k next : ℕ) → itemAt s at ≡ Repeat b k next → (n : ℕ) → lineBytes (suc n) s at ≡ replicate k b
+      ++ lineBytes n s next
   unfolding lineBytes bytesThen
   line-repeat b k next e n = rw e
 
-  pub line-number : (v next : ℕ) → itemAt s at ≡ Number v next → (n : ℕ) → lineBytes (suc n) s at ≡ digits 4 v ++ lineBytes n s next
+  pub line-number : (v next : ℕ) → itemAt s at ≡ Number v next → (n : ℕ) → lineBytes (suc n) s at ≡ digits 4 v
+      ++ lineBytes n s next
   unfolding lineBytes bytesThen
   line-number v next e n = rw e
 
-  pub line-text : (a e next : ℕ) → itemAt s at ≡ Text a e next → (n : ℕ) → lineBytes (suc n) s at ≡ take (e - a) (drop a s) ++ lineBytes n s next
+  pub line-text : (a e next : ℕ) → itemAt s at ≡ Text a e next → (n : ℕ) → lineBytes (suc n) s at
+      ≡ take (e - a) (drop a s) ++ lineBytes n s next
   unfolding lineBytes bytesThen
   line-text a e next q n = rw q
 
@@ -69,7 +74,8 @@ module _ (s : List ℕ) (at : ℕ) where
   unfolding lineRight rightThen
   right-end e n = rw e
 
-  pub right-repeat : (b k next : ℕ) → itemAt s at ≡ Repeat b k next → (n : ℕ) → lineRight (suc n) s at ≡ lineRight n s next
+  pub right-repeat : (b k next : ℕ) → itemAt s at ≡ Repeat b k next → (n : ℕ) → lineRight (suc n) s at
+      ≡ lineRight n s next
   unfolding lineRight rightThen
   right-repeat b k next e n = rw e
 
@@ -98,13 +104,16 @@ text-length s a e h = simp (length-take, length-drop) (omega arith)
 
 -- An item's bytes that have no room leave none for the line.
 module _ (s : List ℕ) (at : ℕ) where
-  pub full-repeat : (b k next : ℕ) → itemAt s at ≡ Repeat b k next → (d m : ℕ) → d < m + k → (n : ℕ) → d < m + length (lineBytes (suc n) s at)
+  pub full-repeat : (b k next : ℕ) → itemAt s at ≡ Repeat b k next → (d m : ℕ) → d < m + k → (n : ℕ)
+      → d < m + length (lineBytes (suc n) s at)
   full-repeat b k next e d m h n = rw (line-repeat s at b k next e n, length-append, length-replicate) (omega arith)
 
-  pub full-number : (v next : ℕ) → itemAt s at ≡ Number v next → (d m : ℕ) → d < m + 4 → (n : ℕ) → d < m + length (lineBytes (suc n) s at)
+  pub full-number : (v next : ℕ) → itemAt s at ≡ Number v next → (d m : ℕ) → d < m + 4 → (n : ℕ)
+      → d < m + length (lineBytes (suc n) s at)
   full-number v next e d m h n = rw (line-number s at v next e n, length-append, length-digits) (omega arith)
 
-  pub full-text : (a e next : ℕ) → itemAt s at ≡ Text a e next → (d m : ℕ) → e ≤ length s → d < m + (e - a) → (n : ℕ) → d < m + length (lineBytes (suc n) s at)
+  pub full-text : (a e next : ℕ) → itemAt s at ≡ Text a e next → (d m : ℕ) → e ≤ length s → d < m + (e - a) → (n : ℕ)
+      → d < m + length (lineBytes (suc n) s at)
   full-text a e next q d m k h n = rw (line-text s at a e next q n, length-append, text-length s a e k) (omega arith)
 
 -- Putting nothing.
@@ -112,7 +121,8 @@ pub put-nil : (k : ℕ) (d : List ℕ) → put k [] d ≡ d
 put-nil k d = rw (append-nil, add-zero) (take-append-drop k d)
 
 -- A turn: the rest of the line, put into the buffer with one item more, is what the line was before.
-module _ (s : List ℕ) (at : ℕ) (d : List ℕ) (k : ℕ) (d' : List ℕ) (next m : ℕ) (bs : List ℕ) (w : Went s at d k d' next m bs) (n : ℕ) where
+module _ (s : List ℕ) (at : ℕ) (d : List ℕ) (k : ℕ) (d' : List ℕ) (next m : ℕ) (bs : List ℕ)
+    (w : Went s at d k d' next m bs) (n : ℕ) where
   pub turn-put : k ≤ length d → put k (lineBytes (suc n) s at) d ≡ put m (lineBytes n s next) d'
   turn-put h = rw (w .goes n, w .written) (sym (put-put k m bs (lineBytes n s next) d h (w .count)))
 
@@ -120,7 +130,8 @@ module _ (s : List ℕ) (at : ℕ) (d : List ℕ) (k : ℕ) (d' : List ℕ) (nex
   turn-count = rw (w .goes n, length-append) (omega arith)
 
 -- The line is all put once nothing is left of it.
-module _ (whole d₀ : List ℕ) (k : ℕ) (left d : List ℕ) (n : ℕ) (puts : put k whole d₀ ≡ put n left d) (counts : k + length whole ≡ n + length left) (none : left ≡ []) where
+module _ (whole d₀ : List ℕ) (k : ℕ) (left d : List ℕ) (n : ℕ) (puts : put k whole d₀
+    ≡ put n left d) (counts : k + length whole ≡ n + length left) (none : left ≡ []) where
   pub all-put : d ≡ put k whole d₀
   all-put = sym (puts ∙ ap (λ (l : List ℕ). put n l d) none ∙ put-nil n d)
 

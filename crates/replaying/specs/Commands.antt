@@ -21,7 +21,8 @@ use Rattle.replaying.specs.declared.commands.Command.the-variants.{Nothi
 use Rattle.replaying.specs.declared.commands.Argument.{Argument}
 use Rattle.replaying.specs.declared.commands.Argument.the-variants.{Number, Bad}
 use Rattle.replaying.specs.declared.commands.Word.{Word}
-use Rattle.replaying.specs.declared.commands.Word.the-variants.{Buffer, Load, Node, Enabler, Create, Bytes, Apply, Expect, Say, Unknown}
+use Rattle.replaying.specs.declared.commands.Word.the-variants.{Buffer, Load, Node, Enabler, Create, Bytes, Apply}
+use Rattle.replaying.specs.declared.commands.Word.the-variants.{Expect, Say, Unknown}
 
 abbrev pub pickWord : Bool → Word → Word → Word
 pickWord true a b = a

@@ -72,12 +72,14 @@ standsAt s at b = cond (ltb at (length s)) (eqb (getD s at 0) b) false
 
 -- =N, with a minus sign or none.
 unfoldable pub numberAt : List ℕ → ℕ → Item
-numberAt s at = pickItem (standsAt s at 45) (negativeOf (decimalAt s (at + 1) 2147483648)) (numberOf (decimalAt s at 4294967295))
+numberAt s at = pickItem (standsAt s at 45) (negativeOf (decimalAt s (at + 1) 2147483648))
+    (numberOf (decimalAt s at 4294967295))
 
 -- XX or XX*N, of which the pair was read.
 unfoldable pub repeatBy : List ℕ → ℕ → Pair → Item
 repeatBy s at NoPair = Bad NoItem
-repeatBy s at (Byte b) = pickItem (standsAt s (at + 2) 42) (repeatOf b (decimalAt s (at + 3) 65540)) (Repeat b 1 (at + 2))
+repeatBy s at (Byte b) = pickItem (standsAt s (at + 2) 42) (repeatOf b (decimalAt s (at + 3) 65540))
+    (Repeat b 1 (at + 2))
 
 unfoldable pub repeatAt : List ℕ → ℕ → Item
 repeatAt s at = repeatBy s at (pairAt s at)
@@ -109,7 +111,8 @@ unfoldable pub lineBytes : ℕ → List ℕ → ℕ → List ℕ
 lineBytes zero s at = []
 lineBytes (suc n) s at = bytesThen s (itemAt s at) (λ next. lineBytes n s next)
 
--- No item from a position on is bad: of one item, and then of the items from its end on; of the first n items of a line.
+-- No item from a position on is bad: of one item, and then of the items from its end on; of the first n items of a
+-- line.
 unfoldable pub rightThen : Item → (ℕ → Bool) → Bool
 rightThen End rest = true
 rightThen (Repeat b k next) rest = rest next

@@ -31,7 +31,8 @@ pickDecimal false a b = b
 
 -- The number whose digits are ds, with the position behind it: no digit, above the bound, or its value.
 unfoldable pub decimalOf : List ℕ → ℕ → ℕ → Decimal
-decimalOf ds next most = pickDecimal (eqb (length ds) 0) Missing (pickDecimal (ltb most (valueOf ds)) TooLarge (Value (valueOf ds) next))
+decimalOf ds next most = pickDecimal (eqb (length ds) 0) Missing (pickDecimal (ltb most (valueOf ds)) TooLarge
+    (Value (valueOf ds) next))
 
 -- The number at a position: its digits are the run of digits there.
 unfoldable pub decimalTo : List ℕ → ℕ → ℕ → ℕ → Decimal

@@ -158,7 +158,7 @@ fn item_here(s: &[u8], at: usize) -> Item
 }
 
 // The next item of a line: a comment begins with #, text with a quote, a number with =.
-pub fn next_item(s: &[u8], at: usize) -> Item
+pub(crate) fn next_item(s: &[u8], at: usize) -> Item
     requires { ⌜ at ≤ length (now s) ⌝ }
     ensures { λ r. ⌜ (r ≡ itemAt (now (s .entry)) at) × inside (length (now (s .entry))) r ⌝ }
 {
@@ -223,7 +223,8 @@ fn put_item(s: &[u8], at: usize, d: &mut [u8], k: usize) -> Step
 // Puts the bytes of all items from `at` on into d from k on. A line has no more items than bytes.
 pub fn put_items(s: &[u8], at: usize, d: &mut [u8], k: usize) -> Put
     requires { ⌜ (at ≤ length (now s)) × (k ≤ length (now d)) ⌝ }
-    ensures { λ r. ⌜ Written (lineRight (length (now (s .entry)) + 1) (now (s .entry)) at) (lineBytes (length (now (s .entry)) + 1) (now (s .entry)) at) (now (d .entry)) k (now (d .exit)) r ⌝ }
+    ensures { λ r. ⌜ Written (lineRight (length (now (s .entry)) + 1) (now (s .entry)) at)
+        (lineBytes (length (now (s .entry)) + 1) (now (s .entry)) at) (now (d .entry)) k (now (d .exit)) r ⌝ }
 {
     let mut left = s.len() + 1;
     let mut p = at;

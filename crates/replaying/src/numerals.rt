@@ -40,7 +40,7 @@ fn value(d: &[u8], most: u32) -> u64
     acc
 }
 
-pub fn decimal_at(s: &[u8], at: usize, most: u32) -> Decimal
+pub(crate) fn decimal_at(s: &[u8], at: usize, most: u32) -> Decimal
     requires { ⌜ at ≤ length (now s) ⌝ }
     ensures { λ r. ⌜ (r ≡ decimalAt (now (s .entry)) at most) × reaches (length (now (s .entry))) r ⌝ }
 {
@@ -81,7 +81,7 @@ fn hex_digit(b: u8) -> u8
 }
 
 // The byte that the two hexadecimal digits at `at` are.
-pub fn pair_at(s: &[u8], at: usize) -> Pair
+pub(crate) fn pair_at(s: &[u8], at: usize) -> Pair
     requires { ⌜ at ≤ length (now s) ⌝ }
     ensures { λ r. ⌜ r ≡ pairAt (now (s .entry)) at ⌝ }
 {

@@ -43,7 +43,8 @@ said-cond false x v = refl
 
 at-perform : (o : Change) (d : List ℕ) (i : ℕ) → getD (perform o d) i 0 ≡ orElse (says i o) (getD d i 0)
 unfolding perform says
-at-perform (wrote off bs) d i = at-write d off bs i ∙ sym (said-cond (covers off (length bs) i) (getD bs (i - off) 0) (getD d i 0))
+at-perform (wrote off bs) d i = at-write d off bs i
+    ∙ sym (said-cond (covers off (length bs) i) (getD bs (i - off) 0) (getD d i 0))
 at-perform (cutAt m) d i = go (leb m i) refl ∙ sym (said-cond (leb m i) 0 (getD d i 0))
   where
     go : (b : Bool) → leb m i ≡ b → getD (take m d) i 0 ≡ cond (leb m i) 0 (getD d i 0)
@@ -64,13 +65,15 @@ performAll-append [] b d = refl
 performAll-append (o ∷ os) b d = performAll-append os b (perform o d)
 
 -- a request's writes and its cut are its changes, performed
-pub perform-changes : (ws : List Placed) (c : Option ℕ) (d : List ℕ) → cutTo c (writeAll ws d) ≡ performAll (writeChanges ws (cutChange c)) d
+pub perform-changes : (ws : List Placed) (c : Option ℕ) (d : List ℕ) → cutTo c (writeAll ws d)
+    ≡ performAll (writeChanges ws (cutChange c)) d
 unfolding performAll writeChanges cutChange writeAll cutTo perform
 perform-changes [] none d = refl
 perform-changes [] (some n) d = refl
 perform-changes (w ∷ ws) c d = perform-changes ws c (writeAt d (w .at) (w .bytes))
 
-pub after-bytes : (p : Parts) (r : Option Request) → afterOf p r .bytes ≡ performAll (changesOf r (length (p .bytes))) (p .bytes)
+pub after-bytes : (p : Parts) (r : Option Request) → afterOf p r .bytes
+    ≡ performAll (changesOf r (length (p .bytes))) (p .bytes)
 unfolding afterOf maybe after withBytes withLeases changesOf performAll rewritten
 after-bytes p none = refl
 after-bytes p (some (testWrite k ts ws cut)) = perform-changes (placed ws (length (p .bytes))) cut (p .bytes)

@@ -60,7 +60,8 @@ pub record Ordered (ls : List (List ℕ)) : Type 0 where
 pub valid-ordered : (p : Parts) → Valid p → Ordered (p .leases)
 valid-ordered p v = record { four = v .four; few = v .few; places = v .places; last = v .last }
 
-pub leases-kept : (p : Parts) (ls : List (List ℕ)) → Valid p → Ordered ls → used (withLeases p ls) ≤ p .room → Valid (withLeases p ls)
+pub leases-kept : (p : Parts) (ls : List (List ℕ)) → Valid p → Ordered ls → used (withLeases p ls) ≤ p .room
+    → Valid (withLeases p ls)
 unfolding withLeases
 leases-kept p ls v o f = record {
   at-least = v .at-least;
@@ -75,12 +76,15 @@ leases-kept p ls v o f = record {
 }
 
 -- no more places use no more room
-pub used-fewer : (p : Parts) (ls : List (List ℕ)) → Valid p → length ls ≤ length (p .leases) → used (withLeases p ls) ≤ p .room
+pub used-fewer : (p : Parts) (ls : List (List ℕ)) → Valid p → length ls ≤ length (p .leases)
+    → used (withLeases p ls) ≤ p .room
 unfolding withLeases used extras usedLength
-used-fewer p ls v h = let f : countAt (length (p .bytes)) + countSize + recordSize * (length (p .leases) - 4) ≤ p .room = v .fits in omega arith
+used-fewer p ls v h = let f : countAt (length (p .bytes)) + countSize + recordSize *
+    (length (p .leases) - 4) ≤ p .room = v .fits in omega arith
 
 -- a lease record in a place
-pub set-ordered : (ls : List (List ℕ)) (i : ℕ) (r : List ℕ) → Ordered ls → Place r → held r ≡ true → Ordered (set ls i r)
+pub set-ordered : (ls : List (List ℕ)) (i : ℕ) (r : List ℕ) → Ordered ls → Place r → held r ≡ true
+    → Ordered (set ls i r)
 set-ordered ls i r o k h = record {
   four = rw length-set (o .four);
   few = rw length-set (o .few);
@@ -88,12 +92,17 @@ set-ordered ls i r o k h = record {
   last = last-drop-set ls i r h (o .last);
 }
 
-pub extended-ordered : (x : ℕ) (ls : List (List ℕ)) (i : ℕ) → i < length ls → held (getD ls i []) ≡ true → Ordered ls → Ordered (extended x ls i)
+pub extended-ordered : (x : ℕ) (ls : List (List ℕ)) (i : ℕ) → i < length ls → held (getD ls i []) ≡ true → Ordered ls
+    → Ordered (extended x ls i)
 unfolding extended
 extended-ordered x ls i h k o =
     let pl : Place (getD ls i []) = each-at Place ls i [] h (o .places) in
     let hl : held (later x (getD ls i [])) ≡ true = held-later x (getD ls i []) (pl .size) ∙ k in
-    set-ordered ls i (later x (getD ls i [])) o (record { size = length-later x (getD ls i []) (pl .size); ok = held-ok _ hl }) hl
+    set-ordered ls i (later x (getD ls i [])) o (record {
+      size = length-later x (getD ls i []) (pl .size);
+      ok =
+          held-ok _ hl;
+    }) hl
 
 -- cancel: an emptied place, then the tail dropped
 pub dropped-ordered : (ls : List (List ℕ)) → 4 ≤ length ls → length ls ≤ 64 → Each Place ls → Ordered (dropTail ls)
@@ -108,7 +117,8 @@ dropped-ordered ls f m e =
     record {
       four = omega arith;
       few = omega arith;
-      places = each-append Place a b (each-take Place 4 ls e) (each-trim Place (drop fixedPlaces ls) (each-drop Place 4 ls e));
+      places = each-append Place a b (each-take Place 4 ls e)
+          (each-trim Place (drop fixedPlaces ls) (each-drop Place 4 ls e));
       last = rw (drop-at a b 4 la) (last-trim (drop fixedPlaces ls));
     }
 
@@ -121,7 +131,8 @@ length-dropped ls f =
     rw length-append (omega arith)
 
 -- a new extra
-pub snoc-ordered : (ls : List (List ℕ)) (r : List ℕ) → Ordered ls → length ls < 64 → Place r → held r ≡ true → Ordered (ls ++ (r ∷ []))
+pub snoc-ordered : (ls : List (List ℕ)) (r : List ℕ) → Ordered ls → length ls < 64 → Place r → held r ≡ true
+    → Ordered (ls ++ (r ∷ []))
 snoc-ordered ls r o h k e =
     let l : length (ls ++ (r ∷ [])) ≡ length ls + 1 = length-append ls (r ∷ []) in
     let f : 4 ≤ length ls = o .four in
@@ -133,28 +144,36 @@ snoc-ordered ls r o h k e =
     }
 
 -- what the requests make of ordered places
-pub renewed-ordered : (t : List ℕ) (x : ℕ) (ls : List (List ℕ)) → Ordered ls → Ordered (renewed t x ls) × (length (renewed t x ls) ≡ length ls)
+pub renewed-ordered : (t : List ℕ) (x : ℕ) (ls : List (List ℕ)) → Ordered ls → Ordered (renewed t x ls)
+    × (length (renewed t x ls) ≡ length ls)
 unfolding renewed maybe extended renewedBy
 renewed-ordered t x ls o = go (firstOf (renewedBy t) ls) refl
   where
-    go : (f : Option ℕ) → firstOf (renewedBy t) ls ≡ f → Ordered (maybe ls (extended x ls) f) × (length (maybe ls (extended x ls) f) ≡ length ls)
+    go : (f : Option ℕ) → firstOf (renewedBy t) ls ≡ f → Ordered (maybe ls (extended x ls) f)
+        × (length (maybe ls (extended x ls) f) ≡ length ls)
     go none e = (o, refl)
     go (some i) e =
         let f : Found (renewedBy t) ls i = first-found (renewedBy t) ls i e in
         (extended-ordered x ls i (f .inside) (both _ _ (f .passes) .0) o, length-set ls i _)
 
-pub cancelled-ordered : (t : List ℕ) (ls : List (List ℕ)) → Ordered ls → Ordered (cancelled t ls) × (length (cancelled t ls) ≤ length ls)
+pub cancelled-ordered : (t : List ℕ) (ls : List (List ℕ)) → Ordered ls → Ordered (cancelled t ls)
+    × (length (cancelled t ls) ≤ length ls)
 unfolding cancelled maybe
 cancelled-ordered t ls o = go (firstOf (cancelledBy t) ls) refl
   where
-    go : (f : Option ℕ) → firstOf (cancelledBy t) ls ≡ f → Ordered (maybe ls (λ i. dropTail (set ls i noLease)) f) × (length (maybe ls (λ i. dropTail (set ls i noLease)) f) ≤ length ls)
+    go : (f : Option ℕ) → firstOf (cancelledBy t) ls ≡ f → Ordered (maybe ls (λ i. dropTail (set ls i noLease)) f)
+        × (length (maybe ls (λ i. dropTail (set ls i noLease)) f) ≤ length ls)
     go none e = (o, omega arith)
     go (some i) e =
         let l : length (set ls i noLease) ≡ length ls = length-set ls i noLease in
         let f : 4 ≤ length ls = o .four in
         let m : length ls ≤ 64 = o .few in
-        let d : length (dropTail (set ls i noLease)) ≤ length (set ls i noLease) = length-dropped (set ls i noLease) (omega arith) in
-        (dropped-ordered (set ls i noLease) (omega arith) (omega arith) (each-set Place ls i noLease (o .places) no-lease), omega arith)
+        let d : length (dropTail (set ls i noLease)) ≤ length (set ls i noLease) = length-dropped (set ls i noLease)
+        (omega arith) in (
+          dropped-ordered (set ls i noLease) (omega arith) (omega arith)
+              (each-set Place ls i noLease (o .places) no-lease),
+          omega arith,
+        )
 
 -- add: the places stay in order where fewer than 64 leases are present or one has the token
 pub added-ordered : (r : List ℕ) (ls : List (List ℕ)) → Ordered ls → Place r → held r ≡ true →
@@ -162,7 +181,8 @@ pub added-ordered : (r : List ℕ) (ls : List (List ℕ)) → Ordered ls → Pla
 unfolding added placedIn maybe knows isSome extended renewedBy
 added-ordered r ls o k h n = go (firstOf (renewedBy (renewalOf r)) ls) refl n
   where
-    room : (f : Option ℕ) → firstOf vacant ls ≡ f → (leb 64 (present ls) && true) ≡ false → Ordered (maybe (ls ++ (r ∷ [])) (λ i. set ls i r) f)
+    room : (f : Option ℕ) → firstOf vacant ls ≡ f → (leb 64 (present ls) && true) ≡ false
+        → Ordered (maybe (ls ++ (r ∷ [])) (λ i. set ls i r) f)
     room none e m =
         let z : present ls < 64 = leb-false 64 (present ls) (and-true m) in
         let l : present ls ≡ length ls = full-present ls e in
@@ -176,7 +196,8 @@ added-ordered r ls o k h n = go (firstOf (renewedBy (renewalOf r)) ls) refl n
             go false e = refl
     room (some i) e m = set-ordered ls i r o k h
 
-    go : (f : Option ℕ) → firstOf (renewedBy (renewalOf r)) ls ≡ f → (leb 64 (present ls) && not (isSome f)) ≡ false → Ordered (maybe (placedIn r ls) (extended (expiryOf r) ls) f)
+    go : (f : Option ℕ) → firstOf (renewedBy (renewalOf r)) ls ≡ f → (leb 64 (present ls) && not (isSome f)) ≡ false
+        → Ordered (maybe (placedIn r ls) (extended (expiryOf r) ls) f)
     go none e m = room (firstOf vacant ls) refl m
     go (some i) e m =
         let f : Found (renewedBy (renewalOf r)) ls i = first-found (renewedBy (renewalOf r)) ls i e in
@@ -190,7 +211,8 @@ Proper (renew t x) = Unit {0}
 Proper (cancel t) = Unit {0}
 Proper (read rs) = Unit {0}
 
-pub after-valid : (p : Parts) (r : Request) (n : ℕ) → Valid p → Proper r → firstRow (rows p r n ++ roomRows p r) ≡ 0 → Valid (after p r)
+pub after-valid : (p : Parts) (r : Request) (n : ℕ) → Valid p → Proper r → firstRow (rows p r n ++ roomRows p r) ≡ 0
+    → Valid (after p r)
 unfolding after rows admitRows findRows roomRows firstRow
 after-valid p (testWrite k ts ws cut) n v q e =
     let r : Request = testWrite k ts ws cut in
@@ -199,7 +221,8 @@ after-valid p (testWrite k ts ws cut) n v q e =
 after-valid p (add r) n v q e =
     let y = clear 10 _ (roomRows p (add r)) (omega arith) e in
     let z = clear 11 _ [] (omega arith) (y .1) in
-    leases-kept p _ v (added-ordered r (p .leases) (valid-ordered p v) (record { size = q .0; ok = held-ok r (q .1) }) (q .1) (y .0)) (ltb-false _ _ (z .0))
+    leases-kept p _ v (added-ordered r (p .leases) (valid-ordered p v) (record { size = q .0; ok = held-ok r (q .1) })
+    (q .1) (y .0)) (ltb-false _ _ (z .0))
 after-valid p (renew t x) n v q e =
     let o = renewed-ordered t x (p .leases) (valid-ordered p v) in
     let l : length (renewed t x (p .leases)) ≡ length (p .leases) = o .1 in

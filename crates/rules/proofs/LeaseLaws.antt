@@ -36,8 +36,10 @@ pub record Found (test : List ℕ → Bool) (ls : List (List ℕ)) (i : ℕ) : T
 pub none-some : {i : ℕ} → _≡_ {A = Option ℕ} none (some i) → ⊥
 none-some e = let z : _≡_ {A = ℕ} 0 1 = cc in omega arith
 
-found-step : (test : List ℕ → Bool) (r : List ℕ) (ls : List (List ℕ)) (i : ℕ) → ((j : ℕ) → firstOf test ls ≡ some j → Found test ls j) →
-    (t : Bool) → test r ≡ t → (o : Option ℕ) → firstOf test ls ≡ o → cond t (some 0) (maybe none (λ i. some (suc i)) o) ≡ some i → Found test (r ∷ ls) i
+found-step : (test : List ℕ → Bool) (r : List ℕ) (ls : List (List ℕ)) (i : ℕ)
+    → ((j : ℕ) → firstOf test ls ≡ some j → Found test ls j) →
+    (t : Bool) → test r ≡ t → (o : Option ℕ) → firstOf test ls ≡ o → cond t (some 0) (maybe none (λ i. some (suc i)) o)
+    ≡ some i → Found test (r ∷ ls) i
 unfolding maybe
 found-step test r ls i ih true h o k e =
     let z : i ≡ 0 = cc in
@@ -51,7 +53,8 @@ found-step test r ls i ih false h (some j) k e =
 pub first-found : (test : List ℕ → Bool) (ls : List (List ℕ)) (i : ℕ) → firstOf test ls ≡ some i → Found test ls i
 unfolding firstOf
 first-found test [] i e = absurd (none-some e)
-first-found test (r ∷ ls) i e = found-step test r ls i (λ j. first-found test ls j) (test r) refl (firstOf test ls) refl e
+first-found test (r ∷ ls) i e = found-step test r ls i (λ j. first-found test ls j) (test r) refl
+    (firstOf test ls) refl e
 
 -- where no place is vacant, every place holds a lease
 pub full-present : (ls : List (List ℕ)) → firstOf vacant ls ≡ none → present ls ≡ length ls
@@ -59,7 +62,8 @@ unfolding firstOf vacant present maybe
 full-present [] e = refl
 full-present (r ∷ ls) e = go (held r) (firstOf vacant ls) refl (full-present ls) e
   where
-    go : (t : Bool) (o : Option ℕ) → firstOf vacant ls ≡ o → (firstOf vacant ls ≡ none → present ls ≡ length ls) → cond (not t) (some 0) (maybe none (λ i. some (suc i)) o) ≡ none →
+    go : (t : Bool) (o : Option ℕ) → firstOf vacant ls ≡ o → (firstOf vacant ls ≡ none → present ls ≡ length ls)
+        → cond (not t) (some 0) (maybe none (λ i. some (suc i)) o) ≡ none →
         cond t 1 0 + present ls ≡ suc (length ls)
     go true none k ih e = let z = ih k in omega arith
     go true (some j) k ih e = absurd (none-some (sym e))
@@ -72,7 +76,8 @@ length-later x r h = simp (length-append, length-digits, length-take, length-dro
 
 pub owner-later : (x : ℕ) (r : List ℕ) → length r ≡ recordSize → ownerOf (later x r) ≡ ownerOf r
 unfolding later ownerOf numberAt
-owner-later x r h = ap number (take-at (take 4 r) (digits 4 (max (expiryOf r) x) ++ drop 8 r) 4 (length-take-le 4 r (omega arith)))
+owner-later x r h = ap number (take-at (take 4 r) (digits 4 (max (expiryOf r) x)
+    ++ drop 8 r) 4 (length-take-le 4 r (omega arith)))
 
 pub held-later : (x : ℕ) (r : List ℕ) → length r ≡ recordSize → held (later x r) ≡ held r
 unfolding held
@@ -83,7 +88,8 @@ unfolding recordOk
 held-ok r h = rw h
 
 -- ---- the last extra
-pub last-set : (ls : List (List ℕ)) (i : ℕ) (r : List ℕ) → held r ≡ true → lastHeld ls ≡ true → lastHeld (set ls i r) ≡ true
+pub last-set : (ls : List (List ℕ)) (i : ℕ) (r : List ℕ) → held r ≡ true → lastHeld ls ≡ true → lastHeld (set ls i r)
+    ≡ true
 unfolding lastHeld
 last-set [] i r h k = k
 last-set (x ∷ []) zero r h k = h
@@ -92,7 +98,8 @@ last-set (x ∷ (y ∷ ls)) zero r h k = k
 last-set (x ∷ (y ∷ ls)) (suc zero) r h k = last-set (y ∷ ls) zero r h k
 last-set (x ∷ (y ∷ ls)) (suc (suc i)) r h k = last-set (y ∷ ls) (suc i) r h k
 
-pub last-drop-set : (ls : List (List ℕ)) (i : ℕ) (r : List ℕ) → held r ≡ true → lastHeld (drop fixedPlaces ls) ≡ true → lastHeld (drop fixedPlaces (set ls i r)) ≡ true
+pub last-drop-set : (ls : List (List ℕ)) (i : ℕ) (r : List ℕ) → held r ≡ true → lastHeld (drop fixedPlaces ls) ≡ true
+    → lastHeld (drop fixedPlaces (set ls i r)) ≡ true
 last-drop-set ls i r h k = go (ltb i 4) refl
   where
     go : (t : Bool) → ltb i 4 ≡ t → lastHeld (drop fixedPlaces (set ls i r)) ≡ true

@@ -19,11 +19,13 @@ unfolding wellFormed
 formed-length c w = both _ _ w .0
 
 -- rows 1 and 2 do not apply to a well-formed container
-pub outcome-formed : (c q : List ℕ) (n : ℕ) → wellFormed c ≡ true → outcome c q n ≡ firstRow (requestRows (partsOf c) (requestOf q) n)
+pub outcome-formed : (c q : List ℕ) (n : ℕ) → wellFormed c ≡ true → outcome c q n
+    ≡ firstRow (requestRows (partsOf c) (requestOf q) n)
 unfolding outcome firstRow
 outcome-formed c q n w = rw (formed-length c w, w)
 
-pub outcome-encode : (p : Parts) (q : List ℕ) (n : ℕ) → Valid p → outcome (encode p) q n ≡ firstRow (requestRows p (requestOf q) n)
+pub outcome-encode : (p : Parts) (q : List ℕ) (n : ℕ) → Valid p → outcome (encode p) q n
+    ≡ firstRow (requestRows p (requestOf q) n)
 outcome-encode p q n v = outcome-formed (encode p) q n (encode-formed p v) ∙ rw (parts-encode p v)
 
 -- the answer record holds the outcome's number
@@ -53,17 +55,20 @@ room-alone p (cancel t) e = refl
 room-alone p (read rs) e = refl
 
 -- where the number is not 11, the room row does not matter
-room-last : (a : List Row) (p : Parts) (r : Request) → eqb (firstRow (a ++ roomRows p r)) 11 ≡ false → firstRow (a ++ roomRows p r) ≡ firstRow a
+room-last : (a : List Row) (p : Parts) (r : Request) → eqb (firstRow (a ++ roomRows p r)) 11 ≡ false
+    → firstRow (a ++ roomRows p r) ≡ firstRow a
 unfolding firstRow
 room-last [] p r e = room-alone p r e
 room-last (x ∷ a) p r e = go (x .applies) e (room-last a p r)
   where
-    go : (b : Bool) → eqb (cond b (x .number) (firstRow (a ++ roomRows p r))) 11 ≡ false → (eqb (firstRow (a ++ roomRows p r)) 11 ≡ false → firstRow (a ++ roomRows p r) ≡ firstRow a) →
+    go : (b : Bool) → eqb (cond b (x .number) (firstRow (a ++ roomRows p r))) 11 ≡ false
+        → (eqb (firstRow (a ++ roomRows p r)) 11 ≡ false → firstRow (a ++ roomRows p r) ≡ firstRow a) →
         cond b (x .number) (firstRow (a ++ roomRows p r)) ≡ cond b (x .number) (firstRow a)
     go true e ih = refl
     go false e ih = ih e
 
-pub outcome-early : (p : Parts) (r : Option Request) (n : ℕ) → eqb (firstRow (requestRows p r n)) 11 ≡ false → firstRow (requestRows p r n) ≡ early p r n
+pub outcome-early : (p : Parts) (r : Option Request) (n : ℕ) → eqb (firstRow (requestRows p r n)) 11 ≡ false
+    → firstRow (requestRows p r n) ≡ early p r n
 unfolding requestRows early earlyRows
 outcome-early p none n e = refl
 outcome-early p (some r) n e = room-last (rows p r n) p r e

@@ -48,15 +48,18 @@ kinds q = short (leb (length q) requestLimit) refl
     one l true o k = tests k (leb-true _ _ l) o (rw (l, k, o))
     one l false o k = broken (rw (l, k, o))
 
-    by5 : leb (length q) requestLimit ≡ true → eqb (kindOf q) 1 ≡ false → eqb (kindOf q) 2 ≡ false → eqb (kindOf q) 3 ≡ false → eqb (kindOf q) 4 ≡ false → (b : Bool) → eqb (kindOf q) 5 ≡ b → Kinds q
+    by5 : leb (length q) requestLimit ≡ true → eqb (kindOf q) 1 ≡ false → eqb (kindOf q) 2 ≡ false → eqb (kindOf q) 3
+        ≡ false → eqb (kindOf q) 4 ≡ false → (b : Bool) → eqb (kindOf q) 5 ≡ b → Kinds q
     by5 l a c d f true e = five l (readOk q) refl (eqb-true _ _ e)
     by5 l a c d f false e = broken (rw (l, a, c, d, f, e))
 
-    by4 : leb (length q) requestLimit ≡ true → eqb (kindOf q) 1 ≡ false → eqb (kindOf q) 2 ≡ false → eqb (kindOf q) 3 ≡ false → (b : Bool) → eqb (kindOf q) 4 ≡ b → Kinds q
+    by4 : leb (length q) requestLimit ≡ true → eqb (kindOf q) 1 ≡ false → eqb (kindOf q) 2 ≡ false → eqb (kindOf q) 3
+        ≡ false → (b : Bool) → eqb (kindOf q) 4 ≡ b → Kinds q
     by4 l a c d true e = four l (cancelOk q) refl (eqb-true _ _ e)
     by4 l a c d false e = by5 l a c d e (eqb (kindOf q) 5) refl
 
-    by3 : leb (length q) requestLimit ≡ true → eqb (kindOf q) 1 ≡ false → eqb (kindOf q) 2 ≡ false → (b : Bool) → eqb (kindOf q) 3 ≡ b → Kinds q
+    by3 : leb (length q) requestLimit ≡ true → eqb (kindOf q) 1 ≡ false → eqb (kindOf q) 2 ≡ false → (b : Bool)
+        → eqb (kindOf q) 3 ≡ b → Kinds q
     by3 l a c true e = three l (renewOk q) refl (eqb-true _ _ e)
     by3 l a c false e = by4 l a c e (eqb (kindOf q) 4) refl
 
@@ -77,7 +80,8 @@ pub add-proper : (q : List ℕ) → addOk q ≡ true → Proper (add (drop 1 q))
 unfolding addOk
 add-proper q e = go (eqb (length q) 93) refl e
   where
-    go : (b : Bool) → eqb (length q) 93 ≡ b → (b && held (drop 1 q)) ≡ true → (length (drop 1 q) ≡ 92) × (held (drop 1 q) ≡ true)
+    go : (b : Bool) → eqb (length q) 93 ≡ b → (b && held (drop 1 q)) ≡ true → (length (drop 1 q) ≡ 92)
+        × (held (drop 1 q) ≡ true)
     go true l e = let n : length q ≡ 93 = eqb-true _ _ l in (rw length-drop (omega arith), e)
     go false l e = absurd (false≢true e)
 

@@ -5,7 +5,8 @@ use mathlib.Core.List.{List, [], _∷_, _++_, map}
 use mathlib.Core.Option.{Option, none, some}
 use Prim.Native.Nat.{ℕ, zero, suc, _+_, _-_, _≤_, _<_, min, max}
 use native.Mathlib.Omega.{arith}
-use lib.ListN.{length, getD, take, drop, replicate, length-append, length-take, length-drop, length-replicate, List·getD-append, List·getD-eq-default}
+use lib.ListN.{length, getD, take, drop, replicate, length-append, length-take, length-drop, length-replicate}
+use lib.ListN.{List·getD-append, List·getD-eq-default}
 use lib.Seq.{getD-take, getD-drop, getD-append-add, ext-getD, take-all}
 use lib.Dec.{ltb}
 use borrow.Author.Tests.{ltb-true, ltb-false, lt-ltb, le-ltb, le-leb, lt-leb}
@@ -35,7 +36,8 @@ at-pad d n i = go (ltb i (length d)) refl
   where
     go : (b : Bool) → ltb i (length d) ≡ b → getD (d ++ replicate (n - length d) 0) i 0 ≡ getD d i 0
     go true e = List·getD-append d (replicate (n - length d) 0) 0 i (ltb-true i (length d) e)
-    go false e = at-app-right d (replicate (n - length d) 0) i (ltb-false i (length d) e) ∙ at-rep (n - length d) (i - length d) ∙ sym (at-past d i (ltb-false i (length d) e))
+    go false e = at-app-right d (replicate (n - length d) 0) i (ltb-false i (length d) e)
+        ∙ at-rep (n - length d) (i - length d) ∙ sym (at-past d i (ltb-false i (length d) e))
 
 pub length-padTo : (d : List ℕ) (n : ℕ) → length (padTo d n) ≡ max (length d) n
 unfolding padTo
@@ -73,7 +75,8 @@ pub covers-high : (off k i : ℕ) → off + k ≤ i → covers off k i ≡ false
 unfolding covers
 covers-high off k i h = rw (le-leb off i (omega arith), le-ltb i (off + k) h)
 
-pub at-write : (d : List ℕ) (off : ℕ) (bs : List ℕ) (i : ℕ) → getD (writeAt d off bs) i 0 ≡ cond (covers off (length bs) i) (getD bs (i - off) 0) (getD d i 0)
+pub at-write : (d : List ℕ) (off : ℕ) (bs : List ℕ) (i : ℕ) → getD (writeAt d off bs) i 0
+    ≡ cond (covers off (length bs) i) (getD bs (i - off) 0) (getD d i 0)
 unfolding writeAt
 at-write d off [] i = go (spot off 0 i)
   where
@@ -95,10 +98,14 @@ at-write d off (b ∷ bs) i = go (spot off (suc (length bs)) i)
     lb : length both ≡ off + suc (length bs)
     lb = length-append front (b ∷ bs) ∙ omega (arith, lf)
 
-    go : Spot off (suc (length bs)) i → getD (both ++ drop (off + suc (length bs)) d) i 0 ≡ cond (covers off (suc (length bs)) i) (getD (b ∷ bs) (i - off) 0) (getD d i 0)
-    go (low h) = rw (covers-low off (suc (length bs)) i h) (List·getD-append both _ 0 i (omega (arith, lb)) ∙ List·getD-append front _ 0 i (omega (arith, lf)) ∙ getD-take off (padTo d off) i 0 h ∙ at-pad d off i)
-    go (mid h g) = rw (covers-mid off (suc (length bs)) i h g) (List·getD-append both _ 0 i (omega (arith, lb)) ∙ at-app-right front (b ∷ bs) i (omega (arith, lf)) ∙ rw lf refl)
-    go (high h) = rw (covers-high off (suc (length bs)) i h) (at-app-right both _ i (omega (arith, lb)) ∙ getD-drop (off + suc (length bs)) d (i - length both) 0 ∙ ap (λ (k : ℕ). getD d k 0) (omega (arith, lb)))
+    go : Spot off (suc (length bs)) i → getD (both ++ drop (off + suc (length bs)) d) i 0
+        ≡ cond (covers off (suc (length bs)) i) (getD (b ∷ bs) (i - off) 0) (getD d i 0)
+    go (low h) = rw (covers-low off (suc (length bs)) i h) (List·getD-append both _ 0 i (omega (arith, lb))
+        ∙ List·getD-append front _ 0 i (omega (arith, lf)) ∙ getD-take off (padTo d off) i 0 h ∙ at-pad d off i)
+    go (mid h g) = rw (covers-mid off (suc (length bs)) i h g) (List·getD-append both _ 0 i (omega (arith, lb))
+        ∙ at-app-right front (b ∷ bs) i (omega (arith, lf)) ∙ rw lf refl)
+    go (high h) = rw (covers-high off (suc (length bs)) i h) (at-app-right both _ i (omega (arith, lb))
+        ∙ getD-drop (off + suc (length bs)) d (i - length both) 0 ∙ ap (λ (k : ℕ). getD d k 0) (omega (arith, lb)))
 
 unfoldable pub over : Placed → ℕ → ℕ → ℕ
 over w i v = cond (covers (w .at) (length (w .bytes)) i) (getD (w .bytes) (i - w .at) 0) v
@@ -132,7 +139,8 @@ grow-small n off (suc k) h = omega arith
 pub size-clipped : (F : ℕ) (ws : List Placed) → sizeAll (map (clip F) ws) F ≡ F
 unfolding sizeAll clip
 size-clipped F [] = refl
-size-clipped F (w ∷ ws) = ap (sizeAll (map (clip F) ws)) (grow-small F (w .at) (length (take (F - w .at) (w .bytes))) (simp length-take (omega arith))) ∙ size-clipped F ws
+size-clipped F (w ∷ ws) = ap (sizeAll (map (clip F) ws)) (grow-small F (w .at) (length (take (F - w .at) (w .bytes)))
+    (simp length-take (omega arith))) ∙ size-clipped F ws
 
 over-clip : (F : ℕ) (w : Placed) (i v : ℕ) → i < F → over (clip F w) i v ≡ over w i v
 unfolding over clip
@@ -150,9 +158,11 @@ over-clip F w i v lt = go (spot (w .at) (length (w .bytes)) i)
     lk : k ≡ min (F - o) n
     lk = length-take (F - w .at) (w .bytes)
 
-    go : Spot o n i → cond (covers o k i) (getD (take (F - o) (w .bytes)) (i - o) 0) v ≡ cond (covers o n i) (getD (w .bytes) (i - o) 0) v
+    go : Spot o n i → cond (covers o k i) (getD (take (F - o) (w .bytes)) (i - o) 0) v
+        ≡ cond (covers o n i) (getD (w .bytes) (i - o) 0) v
     go (low h) = rw (covers-low o n i h, covers-low o k i h)
-    go (mid h g) = rw (covers-mid o n i h g, covers-mid o k i h (omega (arith, lk))) (getD-take (F - o) (w .bytes) (i - o) 0 (omega arith))
+    go (mid h g) = rw (covers-mid o n i h g, covers-mid o k i h (omega (arith, lk)))
+        (getD-take (F - o) (w .bytes) (i - o) 0 (omega arith))
     go (high h) = rw (covers-high o n i h, covers-high o k i (omega (arith, lk)))
 
 over-clipped : (F : ℕ) (ws : List Placed) (i v : ℕ) → i < F → overAll (map (clip F) ws) i v ≡ overAll ws i v
@@ -168,7 +178,8 @@ at-resize : (F : ℕ) (d : List ℕ) (i : ℕ) → i < F → getD (resize F d) i
 unfolding resize
 at-resize F d i h = getD-take F (padTo d F) i 0 h ∙ at-pad d F i
 
-pub take-writes : (F : ℕ) (ws : List Placed) (d : List ℕ) → F ≤ sizeAll ws (length d) → take F (writeAll ws d) ≡ writeAll (map (clip F) ws) (resize F d)
+pub take-writes : (F : ℕ) (ws : List Placed) (d : List ℕ) → F ≤ sizeAll ws (length d) → take F (writeAll ws d)
+    ≡ writeAll (map (clip F) ws) (resize F d)
 take-writes F ws d h = ext-getD 0 (take F (writeAll ws d)) (writeAll (map (clip F) ws) (resize F d)) (ll ∙ sym lr) at
   where
     ll : length (take F (writeAll ws d)) ≡ F
@@ -177,21 +188,27 @@ take-writes F ws d h = ext-getD 0 (take F (writeAll ws d)) (writeAll (map (clip 
     lr : length (writeAll (map (clip F) ws) (resize F d)) ≡ F
     lr = simp (length-writeAll, length-resize, size-clipped)
 
-    at : (i : ℕ) → i < length (take F (writeAll ws d)) → getD (take F (writeAll ws d)) i 0 ≡ getD (writeAll (map (clip F) ws) (resize F d)) i 0
+    at : (i : ℕ) → i < length (take F (writeAll ws d)) → getD (take F (writeAll ws d)) i 0
+        ≡ getD (writeAll (map (clip F) ws) (resize F d)) i 0
     at i lt =
         let g : i < F = omega (arith, ll) in
-        getD-take F (writeAll ws d) i 0 g ∙ at-writeAll ws d i ∙ sym (at-writeAll (map (clip F) ws) (resize F d) i ∙ over-clipped F ws i (getD (resize F d) i 0) g ∙ ap (overAll ws i) (at-resize F d i g))
+        getD-take F (writeAll ws d) i 0 g ∙ at-writeAll ws d i ∙ sym (at-writeAll (map (clip F) ws) (resize F d) i
+        ∙ over-clipped F ws i (getD (resize F d) i 0) g ∙ ap (overAll ws i) (at-resize F d i g))
 
 pub take-min : (n : ℕ) (d : List ℕ) → take n d ≡ take (min n (length d)) d
 take-min n d = go (ltb n (length d)) refl
   where
     go : (b : Bool) → ltb n (length d) ≡ b → take n d ≡ take (min n (length d)) d
     go true e = let m : n ≡ min n (length d) = omega (arith, ltb-true n (length d) e) in ap (λ (k : ℕ). take k d) m
-    go false e = take-all n d (ltb-false n (length d) e) ∙ sym (take-all (min n (length d)) d (omega (arith, ltb-false n (length d) e)))
+    go false e = take-all n d (ltb-false n (length d) e)
+        ∙ sym (take-all (min n (length d)) d (omega (arith, ltb-false n (length d) e)))
 
 -- THE LAW: writes in order and then the cut are the clipped writes over old data brought to the final size
 pub no-gap : (ws : List Placed) (c : Option ℕ) (d : List ℕ) →
-    cutTo c (writeAll ws d) ≡ writeAll (map (clip (cutSize c (sizeAll ws (length d)))) ws) (resize (cutSize c (sizeAll ws (length d))) d)
+    cutTo c (writeAll ws d)
+    ≡ writeAll (map (clip (cutSize c (sizeAll ws (length d)))) ws) (resize (cutSize c (sizeAll ws (length d))) d)
 unfolding cutTo cutSize
-no-gap ws none d = sym (take-all (sizeAll ws (length d)) (writeAll ws d) (omega (arith, length-writeAll ws d))) ∙ take-writes (sizeAll ws (length d)) ws d (omega arith)
-no-gap ws (some n) d = take-min n (writeAll ws d) ∙ rw length-writeAll (take-writes (min n (sizeAll ws (length d))) ws d (omega arith))
+no-gap ws none d = sym (take-all (sizeAll ws (length d)) (writeAll ws d) (omega (arith, length-writeAll ws d)))
+    ∙ take-writes (sizeAll ws (length d)) ws d (omega arith)
+no-gap ws (some n) d = take-min n (writeAll ws d)
+    ∙ rw length-writeAll (take-writes (min n (sizeAll ws (length d))) ws d (omega arith))

@@ -71,10 +71,11 @@ roomRows p (renew t x) = []
 roomRows p (cancel t) = []
 roomRows p (read rs) = []
 
--- The rows of a request, if any, in the order in which they are judged: 3, or 4 to 10 and then 11.
+-- Rows 4 to 10, in the order in which they are judged.
 unfoldable pub rows : Parts → Request → ℕ → List Row
 rows p r n = admitRows p r ++ findRows p r n
 
+-- The rows of a request, if it is one: 3, or 4 to 10 and then 11.
 unfoldable pub requestRows : Parts → Option Request → ℕ → List Row
 requestRows p none n = row 3 true ∷ []
 requestRows p (some r) n = rows p r n ++ roomRows p r

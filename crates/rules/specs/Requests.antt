@@ -1,7 +1,7 @@
--- Requests (document 01, "Requests"): a table of contents first, then the bodies. `requestOf` reads bytes into a request,
--- and gives none where they break the format.
+-- Requests (document 01, "Requests"): a table of contents first, then the bodies. `requestOf` reads bytes into a
+-- request, and gives none where they break the format.
 use Prim.Native.Nat.{ℕ, zero, suc, _+_, _*_}
-use mathlib.Core.Bool.{Bool, true, false, cond, _&&_}
+use mathlib.Core.Bool.{Bool, true, cond, _&&_}
 use mathlib.Core.List.{List, [], _∷_}
 use mathlib.Core.Option.{Option, none, some}
 use lib.ListN.{length, take, drop, getD}

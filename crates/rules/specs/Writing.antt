@@ -1,10 +1,9 @@
 -- Writes and the cut (document 01, "Testing, writing, leasing").
-use Prim.Native.Nat.{ℕ, zero, suc, _+_, _-_, max, min}
+use Prim.Native.Nat.{ℕ, zero, suc, _+_, _-_, max}
 use mathlib.Core.Bool.{Bool, true, _&&_}
 use mathlib.Core.List.{List, [], _∷_, _++_}
 use mathlib.Core.Option.{Option, none, some}
 use lib.ListN.{length, take, drop, replicate}
-use lib.Dec.{leb, ltb}
 use Rattle.rules.specs.Requests.{Write}
 use Rattle.rules.specs.Testing.{resolves, position}
 

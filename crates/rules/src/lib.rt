@@ -4,6 +4,6 @@
 #[repr(C)]
 pub struct Answer {
     pub number: u32,
-    pub node: [u8; 20],
+    pub node: [u8; format::layout::NODE_SIZE],
     pub count: u64,
 }

@@ -234,11 +234,15 @@ fn edges() {
 // A container with these data, no lease and no extra lease.
 fn enclose(c: &mut [u8], s: &[u8]) {
     let n = s.len();
-    if n <= 65536 {
-        store(c, 0, b"tahoe mutable container v1\x0a\x75\x09\x44\x03\x8e");
-        set64(c, 84, n as u64);
-        set64(c, 92, 468 + n as u64);
-        store(c, 468, s);
+    if n <= format::layout::LIMIT {
+        store(c, 0, &format::layout::MAGIC);
+        set64(c, format::layout::SIZE_AT, n as u64);
+        set64(
+            c,
+            format::layout::OFFSET_AT,
+            (format::layout::DATA_AT + n) as u64,
+        );
+        store(c, format::layout::DATA_AT, s);
     }
 }
 

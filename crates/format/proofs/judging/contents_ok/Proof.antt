@@ -13,7 +13,11 @@ records-ok-requires c κs = let h = framed-sized _ _ (c .before .pre .0) in omeg
 returns : tie.Need-returns
 returns c =
     let s = c .before .before .before in
-    rw (contents-read (s .args .c .now) (s .args .frame) (s .pre .0), sym (c .before .records-ok .ensures) ∙ not-true _ (c .if1 .taken))
+    rw (
+      contents-read (s .args .c .now) (s .args .frame) (s .pre .0),
+      sym (c .before .records-ok .ensures)
+          ∙ not-true _ (c .if1 .taken),
+    )
 
 extras-at-requires : tie.Need-extras-at-requires
 extras-at-requires c κs = let h = framed-sized _ _ (c .before .before .before .pre .0) in omega arith
@@ -28,7 +32,13 @@ returns-2 c =
     let s = c .before .before .before .before .before .before in
     let d = c .before .before .before in
     let k : c .before .before .extras-at .result ≡ _ = c .before .before .extras-at .ensures in
-    rw (contents-read (s .args .c .now) (s .args .frame) (s .pre .0), sym (d .before .records-ok .ensures) ∙ not-false _ (d .if1 .left), ← k, sym (c .before .records-ok2 .ensures) ∙ not-true _ (c .if2 .taken))
+    rw (
+      contents-read (s .args .c .now) (s .args .frame) (s .pre .0),
+      sym (d .before .records-ok .ensures)
+          ∙ not-false _ (d .if1 .left),
+      ← k,
+      sym (c .before .records-ok2 .ensures) ∙ not-true _ (c .if2 .taken),
+    )
 
 last-held-requires : tie.Need-last-held-requires
 last-held-requires c κs =
@@ -40,15 +50,32 @@ returns-3 c =
     let s = c .before .before .before .before .before .before .before .before in
     let d = c .before .before .before .before .before in
     let f = c .before .before in
-    rw (contents-read (s .args .c .now) (s .args .frame) (s .pre .0), sym (d .before .records-ok .ensures) ∙ not-false _ (d .if1 .left), ← c .before .before .before .before .extras-at .ensures, sym (f .before .records-ok2 .ensures) ∙ not-false _ (f .if2 .left), sym (c .before .last-held .ensures) ∙ not-true _ (c .if3 .taken))
+    rw (
+      contents-read (s .args .c .now) (s .args .frame) (s .pre .0),
+      sym (d .before .records-ok .ensures)
+          ∙ not-false _ (d .if1 .left),
+      ← c .before .before .before .before .extras-at .ensures,
+      sym (f .before .records-ok2 .ensures) ∙ not-false _ (f .if2 .left),
+      sym (c .before .last-held .ensures)
+          ∙ not-true _ (c .if3 .taken),
+    )
 
 used-requires : tie.Need-used-requires
-used-requires c κs = let h = framed-sized _ _ (c .before .before .before .before .before .before .before .before .pre .0) in (omega arith, omega arith)
+used-requires c κs = let h =
+    framed-sized _ _ (c .before .before .before .before .before .before .before .before .pre .0) in (
+      omega arith,
+      omega arith,
+    )
 
 zero-from-requires : tie.Need-zero-from-requires
 zero-from-requires c κs =
     let s = c .before .before .before .before .before .before .before .before .before in
-    omega (arith, framed-sized _ _ (s .pre .0), used-is (s .args .frame .size) (s .args .frame .extras), c .used .ensures)
+    omega (
+      arith,
+      framed-sized _ _ (s .pre .0),
+      used-is (s .args .frame .size) (s .args .frame .extras),
+      c .used .ensures,
+    )
 
 returns-4 : tie.Need-returns-4
 returns-4 c =
@@ -56,7 +83,16 @@ returns-4 c =
     let g = c .before .before in
     let f = c .before .before .before .before in
     let d = c .before .before .before .before .before .before .before in
-    rw (contents-read (s .args .c .now) (s .args .frame) (s .pre .0), sym (d .before .records-ok .ensures) ∙ not-false _ (d .if1 .left), ← c .before .before .before .before .before .before .extras-at .ensures, sym (f .before .records-ok2 .ensures) ∙ not-false _ (f .if2 .left), sym (g .before .last-held .ensures) ∙ not-false _ (g .if3 .left), ← c .before .used .ensures) (c .zero-from .ensures)
+    rw (
+      contents-read (s .args .c .now) (s .args .frame) (s .pre .0),
+      sym (d .before .records-ok .ensures)
+          ∙ not-false _ (d .if1 .left),
+      ← c .before .before .before .before .before .before .extras-at .ensures,
+      sym (f .before .records-ok2 .ensures) ∙ not-false _ (f .if2 .left),
+      sym (g .before .last-held .ensures)
+          ∙ not-false _ (g .if3 .left),
+      ← c .before .used .ensures,
+    ) (c .zero-from .ensures)
 
 pub contents-ok-spec : {M : Type 1} → statement M
 contents-ok-spec =

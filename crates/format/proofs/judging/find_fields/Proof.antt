@@ -16,7 +16,8 @@ has-magic-requires c κs = omega (arith, length-facts _ (c .before .pre))
 returns : tie.Need-returns
 returns c =
     let a = c .before .before .before .args in
-    rw (fields-false (a .c .now) (λ h. false≢true (sym (not-true _ (c .if1 .taken)) ∙ c .before .has-magic .ensures ∙ h .magical)))
+    rw (fields-false (a .c .now) (λ h. false≢true (sym (not-true _ (c .if1 .taken)) ∙ c .before .has-magic .ensures
+    ∙ h .magical)))
 
 u64-at-requires : tie.Need-u64-at-requires
 u64-at-requires c κs = omega (arith, length-facts _ (c .before .before .before .pre))
@@ -41,10 +42,12 @@ returns-3 c =
     let b = c .before .before .before in
     let a = b .before .before .before .before .args in
     let s : sizeOf (a .c .now) ≡ b .u64-at .result = size-read _ _ (b .u64-at .ensures) in
-    rw (fields-false (a .c .now) (λ h. c .if3 .taken (c .before .u64-at2 .ensures ∙ h .offset ∙ count-is (sizeOf (a .c .now)) ∙ rw s)))
+    rw (fields-false (a .c .now) (λ h. c .if3 .taken (c .before .u64-at2 .ensures ∙ h .offset
+    ∙ count-is (sizeOf (a .c .now)) ∙ rw s)))
 
 u32-at-requires : tie.Need-u32-at-requires
-u32-at-requires c κs = let b = c .before .before .before in omega (arith, length-facts _ (b .before .before .before .before .pre))
+u32-at-requires c κs = let b = c .before .before .before in
+    omega (arith, length-facts _ (b .before .before .before .before .pre))
 
 cast-extras : tie.Need-cast-extras
 cast-extras c = search needs
@@ -54,11 +57,16 @@ returns-4 c =
     let b = c .before .before .before .before .before in
     let a = b .before .before .before .before .args in
     let s : sizeOf (a .c .now) ≡ b .u64-at .result = size-read _ _ (b .u64-at .ensures) in
-    let x : extrasOf (a .c .now) ≡ c .before .u32-at .result = extras-read _ _ _ _ s (c .before .before .if3 .left) (c .before .u32-at .ensures) in
+    let x : extrasOf (a .c .now) ≡ c .before .u32-at .result = extras-read _ _ _ _ s (c .before .before .if3 .left)
+    (c .before .u32-at .ensures) in
     rw (fields-false (a .c .now) (λ h. omega arith))
 
 used-requires : tie.Need-used-requires
-used-requires c κs = let h = length-facts _ (c .before .before .before .before .before .before .before .before .before .pre) in (omega arith, omega arith)
+used-requires c κs = let h =
+    length-facts _ (c .before .before .before .before .before .before .before .before .before .pre) in (
+      omega arith,
+      omega arith,
+    )
 
 returns-5 : tie.Need-returns-5
 returns-5 c =
@@ -66,9 +74,14 @@ returns-5 c =
     let b = d .before .before .before .before in
     let a = b .before .before .before .before .args in
     let s : sizeOf (a .c .now) ≡ b .u64-at .result = size-read _ _ (b .u64-at .ensures) in
-    let x : extrasOf (a .c .now) ≡ d .u32-at .result = extras-read _ _ _ _ s (d .before .if3 .left) (d .u32-at .ensures) in
+    let x : extrasOf (a .c .now) ≡ d .u32-at .result = extras-read _ _ _ _ s (d .before .if3 .left)
+    (d .u32-at .ensures) in
     let u = c .before .used .ensures in
-    rw (fields-false (a .c .now) (λ h. omega (arith, used-is (sizeOf (a .c .now)) (extrasOf (a .c .now)), used-is (b .u64-at .result) (d .u32-at .result))))
+    rw (fields-false (a .c .now) (λ h. omega (
+      arith,
+      used-is (sizeOf (a .c .now)) (extrasOf (a .c .now)),
+      used-is (b .u64-at .result) (d .u32-at .result),
+    )))
 
 returns-6 : tie.Need-returns-6
 returns-6 c =
@@ -77,13 +90,20 @@ returns-6 c =
     let m = b .before .before in
     let a = m .before .before .args in
     let s : sizeOf (a .c .now) ≡ b .u64-at .result = size-read _ _ (b .u64-at .ensures) in
-    let x : extrasOf (a .c .now) ≡ d .u32-at .result = extras-read _ _ _ _ s (d .before .if3 .left) (d .u32-at .ensures) in
+    let x : extrasOf (a .c .now) ≡ d .u32-at .result = extras-read _ _ _ _ s (d .before .if3 .left)
+    (d .u32-at .ensures) in
     let u = used-is (sizeOf (a .c .now)) (extrasOf (a .c .now)) in
     let w = used-is (b .u64-at .result) (d .u32-at .result) in
     let n = c .before .used .ensures in
     let k = count-is (sizeOf (a .c .now)) in
     let y : m .has-magic .result ≡ true = not-false _ (b .before .if1 .left) in
-    let h : Fields (a .c .now) = record { magical = sym (m .has-magic .ensures) ∙ y; offset = omega arith; few = omega arith; fits = omega arith } in
+    let h : Fields (a .c .now) = record {
+      magical = sym (m .has-magic .ensures) ∙ y;
+      offset = omega arith;
+      few =
+          omega arith;
+      fits = omega arith;
+    } in
     rw (fields-true (a .c .now) h, s, x)
 
 pub find-fields-spec : {M : Type 1} → statement M

@@ -23,25 +23,34 @@ enum-known-frame : tie.Need-enum-known-frame
 enum-known-frame c = search needs
 
 contents-ok-requires : tie.Need-contents-ok-requires
-contents-ok-requires c κs = (found-agree _ _ (sym (c .before .frame .given .1) ∙ c .before .before .before .find-fields .ensures), omega arith)
+contents-ok-requires c κs = (
+  found-agree _ _ (sym (c .before .frame .given .1)
+      ∙ c .before .before .before .find-fields .ensures),
+  omega arith,
+)
 
 returns-3 : tie.Need-returns-3
 returns-3 c =
     let f = c .before .before .before .before .before in
     let l = c .before .before .before .before .before .before in
-    judge-formed _ _ (length-true _ (l .before .if1 .left) (l .if2 .left)) (sym (c .before .before .before .frame .given .1) ∙ f .find-fields .ensures) (sym (c .before .contents-ok .ensures) ∙ c .if3 .taken)
+    judge-formed _ _ (length-true _ (l .before .if1 .left) (l .if2 .left))
+    (sym (c .before .before .before .frame .given .1) ∙ f .find-fields .ensures)
+    (sym (c .before .contents-ok .ensures) ∙ c .if3 .taken)
 
 returns-4 : tie.Need-returns-4
 returns-4 c =
     let f = c .before .before in
     let l = c .before .before .before in
-    judge-fields _ (length-true _ (l .before .if1 .left) (l .if2 .left)) (found-disagree _ (sym (c .enum-told .given .1) ∙ f .find-fields .ensures))
+    judge-fields _ (length-true _ (l .before .if1 .left) (l .if2 .left)) (found-disagree _ (sym (c .enum-told .given .1)
+    ∙ f .find-fields .ensures))
 
 returns-5 : tie.Need-returns-5
 returns-5 c =
     let f = c .before .before .before .before .before in
     let l = c .before .before .before .before .before .before in
-    judge-contents _ _ (length-true _ (l .before .if1 .left) (l .if2 .left)) (sym (c .before .before .before .frame .given .1) ∙ f .find-fields .ensures) (sym (c .before .contents-ok .ensures) ∙ c .if3 .left)
+    judge-contents _ _ (length-true _ (l .before .if1 .left) (l .if2 .left))
+    (sym (c .before .before .before .frame .given .1) ∙ f .find-fields .ensures)
+    (sym (c .before .contents-ok .ensures) ∙ c .if3 .left)
 
 pub judge-spec : {M : Type 1} → statement M
 judge-spec =

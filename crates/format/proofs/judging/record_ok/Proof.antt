@@ -34,7 +34,8 @@ returns-2 : tie.Need-returns-2
 returns-2 c =
     let a = c .before .before .before .before .before .args in
     let k : a .p + 92 - a .p ≡ 92 = omega arith in
-    c .all-zero .ensures ∙ ap (λ (n : ℕ). allZero (take n (drop (a .p) (a .c .now)))) k ∙ sym (record-none _ _ (sym (c .before .before .before .u32-at .ensures) ∙ c .before .before .if1 .left))
+    c .all-zero .ensures ∙ ap (λ (n : ℕ). allZero (take n (drop (a .p) (a .c .now)))) k
+    ∙ sym (record-none _ _ (sym (c .before .before .before .u32-at .ensures) ∙ c .before .before .if1 .left))
 
 pub record-ok-spec : {M : Type 1} → statement M
 record-ok-spec =

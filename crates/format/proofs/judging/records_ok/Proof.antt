@@ -12,7 +12,8 @@ use Rattle.format.proofs.judging.records_ok.Statement.{statement}
 use Rattle.format.proofs.judging.records_ok.Tie as tie
 
 abbrev Inv-loop : tie.InvT-loop
-Inv-loop c from n left₀ at₀ left at = (at + recordSize * left ≤ length c) × (every recordOk (records n from c) ≡ every recordOk (records left at c))
+Inv-loop c from n left₀ at₀ left at = (at + recordSize * left ≤ length c)
+    × (every recordOk (records n from c) ≡ every recordOk (records left at c))
 
 abbrev μ-loop : tie.MeasureT-loop
 μ-loop c from n left₀ at₀ left at = left
@@ -26,7 +27,8 @@ record-ok-requires c κs = omega arith
 returns : tie.Need-returns Inv-loop μ-loop
 returns c =
     let l = c .before .before .before in
-    sym (l .loop .inv .1 ∙ records-stop _ _ _ (c .before .before .loop-test .taken) (sym (c .before .record-ok .ensures) ∙ not-true _ (c .if1 .taken)))
+    sym (l .loop .inv .1 ∙ records-stop _ _ _ (c .before .before .loop-test .taken) (sym (c .before .record-ok .ensures)
+    ∙ not-true _ (c .if1 .taken)))
 
 sub-left : tie.Need-sub-left Inv-loop μ-loop
 sub-left c = omega arith
@@ -39,8 +41,12 @@ loop-less c = omega arith
 
 loop-again : tie.Need-loop-again Inv-loop μ-loop
 loop-again c =
-    let l = c .before .before .before in
-    (omega arith, l .loop .inv .1 ∙ records-more _ _ _ (c .before .before .loop-test .taken) (sym (c .before .record-ok .ensures) ∙ not-false _ (c .if1 .left)))
+    let l = c .before .before .before in (
+      omega arith,
+      l .loop .inv .1
+          ∙ records-more _ _ _ (c .before .before .loop-test .taken) (sym (c .before .record-ok .ensures)
+          ∙ not-false _ (c .if1 .left)),
+    )
 
 returns-2 : tie.Need-returns-2 Inv-loop μ-loop
 returns-2 c = sym (c .before .loop .inv .1 ∙ records-end _ _ _ (c .loop-test .left))

@@ -13,7 +13,8 @@ enum-known-w : tie.Need-enum-known-w
 enum-known-w c = search needs
 
 run-word-requires : tie.Need-run-word-requires
-run-word-requires c κs = rw (c .before .before .before .before .before .before .w .given .1) at (c .before .before .before .before .before .before .before .before .command-of .ensures .1)
+run-word-requires c κs = rw (c .before .before .before .before .before .before .w .given .1) at
+    (c .before .before .before .before .before .before .before .before .command-of .ensures .1)
 
 returns : tie.Need-returns
 returns c = search needs

@@ -70,7 +70,8 @@ returns c = tt
 
 add-at : tie.Need-add-at Inv-loop μ-loop
 add-at c =
-    let run = c .before .before .before .before .before .before .before .before .before .before .before .before .before .before .before .before .before .before .before .before in
+    let run = c .before .before .before .before .before .before .before .before .before .before .before .before .before
+    .before .before .before .before .before .before .before in
     let start = run .before .before .before .before .before .before .before .before .before .before in
     omega (arith, start .good .1 .0 .1, run .run-end .ensures .2)
 

@@ -31,7 +31,8 @@ enum-known-frame : tie.Need-enum-known-frame
 enum-known-frame c = search needs
 
 parts-requires : tie.Need-parts-requires
-parts-requires c κs = judged-formed _ _ (subst (Judges _) (c .before .frame .given .1) (c .before .before .before .judge .ensures))
+parts-requires c κs =
+    judged-formed _ _ (subst (Judges _) (c .before .frame .given .1) (c .before .before .before .judge .ensures))
 
 returns : tie.Need-returns
 returns c = search needs

@@ -22,7 +22,8 @@ write-requires-2 : tie.Need-write-requires-2
 write-requires-2 c κs = search needs
 
 used-requires : tie.Need-used-requires
-used-requires c κs = let z = known-sized _ _ (c .before .before .before .before .before .before .pre) in let m = known-most _ _ (c .before .before .before .before .before .before .pre) in (omega arith, omega arith)
+used-requires c κs = let z = known-sized _ _ (c .before .before .before .before .before .before .pre) in
+    let m = known-most _ _ (c .before .before .before .before .before .before .pre) in (omega arith, omega arith)
 
 number-requires-2 : tie.Need-number-requires-2
 number-requires-2 c κs = search needs
@@ -52,21 +53,41 @@ slice-aggregate-leases : tie.Need-slice-aggregate-leases
 slice-aggregate-leases c = search needs
 
 leases-requires : tie.Need-leases-requires
-leases-requires c κs = let z = known-sized _ _ (c .before .before .before .before .before .before .before .before .before .before .before .before .before .before .before .before .pre) in omega (arith, z .fits)
+leases-requires c κs = let z =
+    known-sized _ _
+    (c .before .before .before .before .before .before .before .before .before .before .before .before .before .before
+    .before .before .pre) in omega (arith, z .fits)
 
 lesser-requires : tie.Need-lesser-requires
 lesser-requires c κs = search needs
 
 extras-at-requires : tie.Need-extras-at-requires
-extras-at-requires c κs = let z = known-sized _ _ (c .before .before .before .before .before .before .before .before .before .before .before .before .before .before .before .before .before .before .pre) in omega (arith, z .fits, known-most _ _ (c .before .before .before .before .before .before .before .before .before .before .before .before .before .before .before .before .before .before .pre))
+extras-at-requires c κs = let z =
+    known-sized _ _
+    (c .before .before .before .before .before .before .before .before .before .before .before .before .before .before
+    .before .before .before .before .pre) in omega (
+      arith,
+      z .fits,
+      known-most _ _
+          (c .before .before .before .before .before .before .before .before .before .before .before .before
+          .before .before
+          .before .before .before .before .pre),
+    )
 
 slice-aggregate-leases-2 : tie.Need-slice-aggregate-leases-2
 slice-aggregate-leases-2 c = search needs
 
 leases-requires-2 : tie.Need-leases-requires-2
 leases-requires-2 c κs =
-    let s = c .before .before .before .before .before .before .before .before .before .before .before .before .before .before .before .before .before .before .before .before in
-    omega (arith, known-sized _ _ (s .pre) .fits, c .before .before .lesser .ensures .0, c .before .extras-at .ensures, count-is (s .args .frame .size))
+    let s = c .before .before .before .before .before .before .before .before .before .before .before .before .before
+    .before .before .before .before .before .before .before in
+    omega (
+      arith,
+      known-sized _ _ (s .pre) .fits,
+      c .before .before .lesser .ensures .0,
+      c .before .extras-at .ensures,
+      count-is (s .args .frame .size),
+    )
 
 slice-aggregate-write-5 : tie.Need-slice-aggregate-write-5
 slice-aggregate-write-5 c = search needs

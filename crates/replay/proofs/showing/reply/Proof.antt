@@ -16,7 +16,8 @@ byte-requires : tie.Need-byte-requires
 byte-requires c κs = search needs
 
 byte-requires-2 : tie.Need-byte-requires-2
-byte-requires-2 c κs = let e = ap (λ (b : Byte). b .next .at) (c .byte .ensures) in omega (arith, e, c .before .start .ensures)
+byte-requires-2 c κs = let e = ap (λ (b : Byte). b .next .at) (c .byte .ensures) in
+    omega (arith, e, c .before .start .ensures)
 
 wide-requires : tie.Need-wide-requires
 wide-requires c κs = search needs

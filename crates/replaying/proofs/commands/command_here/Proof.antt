@@ -30,7 +30,14 @@ word-of-requires c κs = search needs
 
 returns-2 : tie.Need-returns-2
 unfolding commandHere wordTo
-returns-2 c = (rw (ne-eqb _ _ (c .before .before .before .if1 .left), ← c .before .before .run-end .ensures .0, ← c .word-of .ensures), omega arith)
+returns-2 c = (
+  rw (
+    ne-eqb _ _ (c .before .before .before .if1 .left),
+    ← c .before .before .run-end .ensures .0,
+    ← c .word-of .ensures,
+  ),
+  omega arith,
+)
 
 pub command-here-spec : {M : Type 1} → statement M
 command-here-spec =

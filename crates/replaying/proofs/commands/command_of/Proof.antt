@@ -13,7 +13,11 @@ command-here-requires c κs = search needs
 
 returns : tie.Need-returns
 unfolding commandOf commandFrom
-returns c = (rw (← c .before .before .run-end .ensures .0, lt-ltb _ _ (c .before .if1 .taken)) (c .command-here .ensures .0), c .command-here .ensures .1)
+returns c = (
+  rw (← c .before .before .run-end .ensures .0, lt-ltb _ _ (c .before .if1 .taken))
+      (c .command-here .ensures .0),
+  c .command-here .ensures .1,
+)
 
 returns-2 : tie.Need-returns-2
 unfolding commandOf commandFrom

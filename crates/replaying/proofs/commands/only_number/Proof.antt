@@ -25,19 +25,37 @@ ends-requires c κs = rw (c .before .v .given .1) at (c .before .before .before 
 
 returns : tie.Need-returns
 unfolding argumentAt
-returns c = rw (← c .before .before .before .before .before .before .run-end .ensures .0, ← c .before .before .before .before .before .decimal-at .ensures .0, c .before .before .before .v .given .1, sym (c .before .ends .ensures) ∙ c .if1 .taken)
+returns c = rw (
+  ← c .before .before .before .before .before .before .run-end .ensures .0,
+  ← c .before .before .before .before .before .decimal-at .ensures .0,
+  c .before .before .before .v .given .1,
+  sym (c .before .ends .ensures) ∙ c .if1 .taken,
+)
 
 returns-2 : tie.Need-returns-2
 unfolding argumentAt
-returns-2 c = rw (← c .before .before .before .run-end .ensures .0, ← c .before .before .decimal-at .ensures .0, c .enum-told .given .1)
+returns-2 c = rw (
+  ← c .before .before .before .run-end .ensures .0,
+  ← c .before .before .decimal-at .ensures .0,
+  c .enum-told .given .1,
+)
 
 returns-3 : tie.Need-returns-3
 unfolding argumentAt
-returns-3 c = rw (← c .before .before .before .run-end .ensures .0, ← c .before .before .decimal-at .ensures .0, c .enum-told2 .given .1)
+returns-3 c = rw (
+  ← c .before .before .before .run-end .ensures .0,
+  ← c .before .before .decimal-at .ensures .0,
+  c .enum-told2 .given .1,
+)
 
 returns-4 : tie.Need-returns-4
 unfolding argumentAt
-returns-4 c = rw (← c .before .before .before .before .before .before .run-end .ensures .0, ← c .before .before .before .before .before .decimal-at .ensures .0, c .before .before .before .v .given .1, sym (c .before .ends .ensures) ∙ c .if1 .left)
+returns-4 c = rw (
+  ← c .before .before .before .before .before .before .run-end .ensures .0,
+  ← c .before .before .before .before .before .decimal-at .ensures .0,
+  c .before .before .before .v .given .1,
+  sym (c .before .ends .ensures) ∙ c .if1 .left,
+)
 
 pub only-number-spec : {M : Type 1} → statement M
 only-number-spec =

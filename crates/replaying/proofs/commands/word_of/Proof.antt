@@ -23,7 +23,10 @@ is-requires-2 c κs = search needs
 
 returns-2 : tie.Need-returns-2
 unfolding wordOf
-returns-2 c = rw (sym (c .before .before .before .before .is .ensures) ∙ c .before .before .before .if1 .left, sym (c .before .is2 .ensures) ∙ c .if2 .taken)
+returns-2 c = rw (
+  sym (c .before .before .before .before .is .ensures) ∙ c .before .before .before .if1 .left,
+  sym (c .before .is2 .ensures) ∙ c .if2 .taken,
+)
 
 slice-aggregate-is-3 : tie.Need-slice-aggregate-is-3
 slice-aggregate-is-3 c = search needs
@@ -33,7 +36,12 @@ is-requires-3 c κs = search needs
 
 returns-3 : tie.Need-returns-3
 unfolding wordOf
-returns-3 c = rw (sym (c .before .before .before .before .before .before .before .is .ensures) ∙ c .before .before .before .before .before .before .if1 .left, sym (c .before .before .before .before .is2 .ensures) ∙ c .before .before .before .if2 .left, sym (c .before .is3 .ensures) ∙ c .if3 .taken)
+returns-3 c = rw (
+  sym (c .before .before .before .before .before .before .before .is .ensures)
+      ∙ c .before .before .before .before .before .before .if1 .left,
+  sym (c .before .before .before .before .is2 .ensures) ∙ c .before .before .before .if2 .left,
+  sym (c .before .is3 .ensures) ∙ c .if3 .taken,
+)
 
 slice-aggregate-is-4 : tie.Need-slice-aggregate-is-4
 slice-aggregate-is-4 c = search needs
@@ -43,7 +51,14 @@ is-requires-4 c κs = search needs
 
 returns-4 : tie.Need-returns-4
 unfolding wordOf
-returns-4 c = rw (sym (c .before .before .before .before .before .before .before .before .before .before .is .ensures) ∙ c .before .before .before .before .before .before .before .before .before .if1 .left, sym (c .before .before .before .before .before .before .before .is2 .ensures) ∙ c .before .before .before .before .before .before .if2 .left, sym (c .before .before .before .before .is3 .ensures) ∙ c .before .before .before .if3 .left, sym (c .before .is4 .ensures) ∙ c .if4 .taken)
+returns-4 c = rw (
+  sym (c .before .before .before .before .before .before .before .before .before .before .is .ensures)
+      ∙ c .before .before .before .before .before .before .before .before .before .if1 .left,
+  sym (c .before .before .before .before .before .before .before .is2 .ensures)
+      ∙ c .before .before .before .before .before .before .if2 .left,
+  sym (c .before .before .before .before .is3 .ensures) ∙ c .before .before .before .if3 .left,
+  sym (c .before .is4 .ensures) ∙ c .if4 .taken,
+)
 
 slice-aggregate-is-5 : tie.Need-slice-aggregate-is-5
 slice-aggregate-is-5 c = search needs
@@ -53,7 +68,19 @@ is-requires-5 c κs = search needs
 
 returns-5 : tie.Need-returns-5
 unfolding wordOf
-returns-5 c = rw (sym (c .before .before .before .before .before .before .before .before .before .before .before .before .before .is .ensures) ∙ c .before .before .before .before .before .before .before .before .before .before .before .before .if1 .left, sym (c .before .before .before .before .before .before .before .before .before .before .is2 .ensures) ∙ c .before .before .before .before .before .before .before .before .before .if2 .left, sym (c .before .before .before .before .before .before .before .is3 .ensures) ∙ c .before .before .before .before .before .before .if3 .left, sym (c .before .before .before .before .is4 .ensures) ∙ c .before .before .before .if4 .left, sym (c .before .is5 .ensures) ∙ c .if5 .taken)
+returns-5 c =
+    rw (
+      sym (c .before .before .before .before .before .before .before .before .before .before .before .before .before
+          .is .ensures)
+          ∙ c .before .before .before .before .before .before .before .before .before .before .before .before
+          .if1 .left,
+      sym (c .before .before .before .before .before .before .before .before .before .before .is2 .ensures)
+          ∙ c .before .before .before .before .before .before .before .before .before .if2 .left,
+      sym (c .before .before .before .before .before .before .before .is3 .ensures)
+          ∙ c .before .before .before .before .before .before .if3 .left,
+      sym (c .before .before .before .before .is4 .ensures) ∙ c .before .before .before .if4 .left,
+      sym (c .before .is5 .ensures) ∙ c .if5 .taken,
+    )
 
 slice-aggregate-is-6 : tie.Need-slice-aggregate-is-6
 slice-aggregate-is-6 c = search needs
@@ -63,7 +90,25 @@ is-requires-6 c κs = search needs
 
 returns-6 : tie.Need-returns-6
 unfolding wordOf
-returns-6 c = rw (sym (c .before .before .before .before .before .before .before .before .before .before .before .before .before .before .before .before .is .ensures) ∙ c .before .before .before .before .before .before .before .before .before .before .before .before .before .before .before .if1 .left, sym (c .before .before .before .before .before .before .before .before .before .before .before .before .before .is2 .ensures) ∙ c .before .before .before .before .before .before .before .before .before .before .before .before .if2 .left, sym (c .before .before .before .before .before .before .before .before .before .before .is3 .ensures) ∙ c .before .before .before .before .before .before .before .before .before .if3 .left, sym (c .before .before .before .before .before .before .before .is4 .ensures) ∙ c .before .before .before .before .before .before .if4 .left, sym (c .before .before .before .before .is5 .ensures) ∙ c .before .before .before .if5 .left, sym (c .before .is6 .ensures) ∙ c .if6 .taken)
+returns-6 c =
+    rw (
+      sym (c .before .before .before .before .before .before .before .before .before .before .before .before .before
+          .before .before .before .is .ensures)
+          ∙ c .before .before .before .before .before .before .before .before .before .before .before .before
+          .before .before
+          .before .if1 .left,
+      sym (c .before .before .before .before .before .before .before .before .before .before .before .before
+          .before .is2
+          .ensures)
+          ∙ c .before .before .before .before .before .before .before .before .before .before .before .before
+          .if2 .left,
+      sym (c .before .before .before .before .before .before .before .before .before .before .is3 .ensures)
+          ∙ c .before .before .before .before .before .before .before .before .before .if3 .left,
+      sym (c .before .before .before .before .before .before .before .is4 .ensures)
+          ∙ c .before .before .before .before .before .before .if4 .left,
+      sym (c .before .before .before .before .is5 .ensures) ∙ c .before .before .before .if5 .left,
+      sym (c .before .is6 .ensures) ∙ c .if6 .taken,
+    )
 
 slice-aggregate-is-7 : tie.Need-slice-aggregate-is-7
 slice-aggregate-is-7 c = search needs
@@ -73,7 +118,30 @@ is-requires-7 c κs = search needs
 
 returns-7 : tie.Need-returns-7
 unfolding wordOf
-returns-7 c = rw (sym (c .before .before .before .before .before .before .before .before .before .before .before .before .before .before .before .before .before .before .before .is .ensures) ∙ c .before .before .before .before .before .before .before .before .before .before .before .before .before .before .before .before .before .before .if1 .left, sym (c .before .before .before .before .before .before .before .before .before .before .before .before .before .before .before .before .is2 .ensures) ∙ c .before .before .before .before .before .before .before .before .before .before .before .before .before .before .before .if2 .left, sym (c .before .before .before .before .before .before .before .before .before .before .before .before .before .is3 .ensures) ∙ c .before .before .before .before .before .before .before .before .before .before .before .before .if3 .left, sym (c .before .before .before .before .before .before .before .before .before .before .is4 .ensures) ∙ c .before .before .before .before .before .before .before .before .before .if4 .left, sym (c .before .before .before .before .before .before .before .is5 .ensures) ∙ c .before .before .before .before .before .before .if5 .left, sym (c .before .before .before .before .is6 .ensures) ∙ c .before .before .before .if6 .left, sym (c .before .is7 .ensures) ∙ c .if7 .taken)
+returns-7 c =
+    rw (
+      sym (c .before .before .before .before .before .before .before .before .before .before .before .before .before
+          .before .before .before .before .before .before .is .ensures)
+          ∙ c .before .before .before .before .before .before .before .before .before .before .before .before
+          .before .before
+          .before .before .before .before .if1 .left,
+      sym (c .before .before .before .before .before .before .before .before .before .before .before .before .before
+          .before .before .before .is2 .ensures)
+          ∙ c .before .before .before .before .before .before .before .before .before .before .before .before
+          .before .before
+          .before .if2 .left,
+      sym (c .before .before .before .before .before .before .before .before .before .before .before .before
+          .before .is3
+          .ensures)
+          ∙ c .before .before .before .before .before .before .before .before .before .before .before .before
+          .if3 .left,
+      sym (c .before .before .before .before .before .before .before .before .before .before .is4 .ensures)
+          ∙ c .before .before .before .before .before .before .before .before .before .if4 .left,
+      sym (c .before .before .before .before .before .before .before .is5 .ensures)
+          ∙ c .before .before .before .before .before .before .if5 .left,
+      sym (c .before .before .before .before .is6 .ensures) ∙ c .before .before .before .if6 .left,
+      sym (c .before .is7 .ensures) ∙ c .if7 .taken,
+    )
 
 slice-aggregate-is-8 : tie.Need-slice-aggregate-is-8
 slice-aggregate-is-8 c = search needs
@@ -83,7 +151,35 @@ is-requires-8 c κs = search needs
 
 returns-8 : tie.Need-returns-8
 unfolding wordOf
-returns-8 c = rw (sym (c .before .before .before .before .before .before .before .before .before .before .before .before .before .before .before .before .before .before .before .before .before .before .is .ensures) ∙ c .before .before .before .before .before .before .before .before .before .before .before .before .before .before .before .before .before .before .before .before .before .if1 .left, sym (c .before .before .before .before .before .before .before .before .before .before .before .before .before .before .before .before .before .before .before .is2 .ensures) ∙ c .before .before .before .before .before .before .before .before .before .before .before .before .before .before .before .before .before .before .if2 .left, sym (c .before .before .before .before .before .before .before .before .before .before .before .before .before .before .before .before .is3 .ensures) ∙ c .before .before .before .before .before .before .before .before .before .before .before .before .before .before .before .if3 .left, sym (c .before .before .before .before .before .before .before .before .before .before .before .before .before .is4 .ensures) ∙ c .before .before .before .before .before .before .before .before .before .before .before .before .if4 .left, sym (c .before .before .before .before .before .before .before .before .before .before .is5 .ensures) ∙ c .before .before .before .before .before .before .before .before .before .if5 .left, sym (c .before .before .before .before .before .before .before .is6 .ensures) ∙ c .before .before .before .before .before .before .if6 .left, sym (c .before .before .before .before .is7 .ensures) ∙ c .before .before .before .if7 .left, sym (c .before .is8 .ensures) ∙ c .if8 .taken)
+returns-8 c =
+    rw (
+      sym (c .before .before .before .before .before .before .before .before .before .before .before .before .before
+          .before .before .before .before .before .before .before .before .before .is .ensures)
+          ∙ c .before .before .before .before .before .before .before .before .before .before .before .before
+          .before .before
+          .before .before .before .before .before .before .before .if1 .left,
+      sym (c .before .before .before .before .before .before .before .before .before .before .before .before .before
+          .before .before .before .before .before .before .is2 .ensures)
+          ∙ c .before .before .before .before .before .before .before .before .before .before .before .before
+          .before .before
+          .before .before .before .before .if2 .left,
+      sym (c .before .before .before .before .before .before .before .before .before .before .before .before .before
+          .before .before .before .is3 .ensures)
+          ∙ c .before .before .before .before .before .before .before .before .before .before .before .before
+          .before .before
+          .before .if3 .left,
+      sym (c .before .before .before .before .before .before .before .before .before .before .before .before
+          .before .is4
+          .ensures)
+          ∙ c .before .before .before .before .before .before .before .before .before .before .before .before
+          .if4 .left,
+      sym (c .before .before .before .before .before .before .before .before .before .before .is5 .ensures)
+          ∙ c .before .before .before .before .before .before .before .before .before .if5 .left,
+      sym (c .before .before .before .before .before .before .before .is6 .ensures)
+          ∙ c .before .before .before .before .before .before .if6 .left,
+      sym (c .before .before .before .before .is7 .ensures) ∙ c .before .before .before .if7 .left,
+      sym (c .before .is8 .ensures) ∙ c .if8 .taken,
+    )
 
 slice-aggregate-is-9 : tie.Need-slice-aggregate-is-9
 slice-aggregate-is-9 c = search needs
@@ -93,11 +189,77 @@ is-requires-9 c κs = search needs
 
 returns-9 : tie.Need-returns-9
 unfolding wordOf
-returns-9 c = rw (sym (c .before .before .before .before .before .before .before .before .before .before .before .before .before .before .before .before .before .before .before .before .before .before .before .before .before .is .ensures) ∙ c .before .before .before .before .before .before .before .before .before .before .before .before .before .before .before .before .before .before .before .before .before .before .before .before .if1 .left, sym (c .before .before .before .before .before .before .before .before .before .before .before .before .before .before .before .before .before .before .before .before .before .before .is2 .ensures) ∙ c .before .before .before .before .before .before .before .before .before .before .before .before .before .before .before .before .before .before .before .before .before .if2 .left, sym (c .before .before .before .before .before .before .before .before .before .before .before .before .before .before .before .before .before .before .before .is3 .ensures) ∙ c .before .before .before .before .before .before .before .before .before .before .before .before .before .before .before .before .before .before .if3 .left, sym (c .before .before .before .before .before .before .before .before .before .before .before .before .before .before .before .before .is4 .ensures) ∙ c .before .before .before .before .before .before .before .before .before .before .before .before .before .before .before .if4 .left, sym (c .before .before .before .before .before .before .before .before .before .before .before .before .before .is5 .ensures) ∙ c .before .before .before .before .before .before .before .before .before .before .before .before .if5 .left, sym (c .before .before .before .before .before .before .before .before .before .before .is6 .ensures) ∙ c .before .before .before .before .before .before .before .before .before .if6 .left, sym (c .before .before .before .before .before .before .before .is7 .ensures) ∙ c .before .before .before .before .before .before .if7 .left, sym (c .before .before .before .before .is8 .ensures) ∙ c .before .before .before .if8 .left, sym (c .before .is9 .ensures) ∙ c .if9 .taken)
+returns-9 c =
+    rw (
+      sym (c .before .before .before .before .before .before .before .before .before .before .before .before .before
+          .before .before .before .before .before .before .before .before .before .before .before .before .is .ensures)
+          ∙ c .before .before .before .before .before .before .before .before .before .before .before .before
+          .before .before
+          .before .before .before .before .before .before .before .before .before .before .if1 .left,
+      sym (c .before .before .before .before .before .before .before .before .before .before .before .before .before
+          .before .before .before .before .before .before .before .before .before .is2 .ensures)
+          ∙ c .before .before .before .before .before .before .before .before .before .before .before .before
+          .before .before
+          .before .before .before .before .before .before .before .if2 .left,
+      sym (c .before .before .before .before .before .before .before .before .before .before .before .before .before
+          .before .before .before .before .before .before .is3 .ensures)
+          ∙ c .before .before .before .before .before .before .before .before .before .before .before .before
+          .before .before
+          .before .before .before .before .if3 .left,
+      sym (c .before .before .before .before .before .before .before .before .before .before .before .before .before
+          .before .before .before .is4 .ensures)
+          ∙ c .before .before .before .before .before .before .before .before .before .before .before .before
+          .before .before
+          .before .if4 .left,
+      sym (c .before .before .before .before .before .before .before .before .before .before .before .before
+          .before .is5
+          .ensures)
+          ∙ c .before .before .before .before .before .before .before .before .before .before .before .before
+          .if5 .left,
+      sym (c .before .before .before .before .before .before .before .before .before .before .is6 .ensures)
+          ∙ c .before .before .before .before .before .before .before .before .before .if6 .left,
+      sym (c .before .before .before .before .before .before .before .is7 .ensures)
+          ∙ c .before .before .before .before .before .before .if7 .left,
+      sym (c .before .before .before .before .is8 .ensures) ∙ c .before .before .before .if8 .left,
+      sym (c .before .is9 .ensures) ∙ c .if9 .taken,
+    )
 
 returns-10 : tie.Need-returns-10
 unfolding wordOf
-returns-10 c = rw (sym (c .before .before .before .before .before .before .before .before .before .before .before .before .before .before .before .before .before .before .before .before .before .before .before .before .before .is .ensures) ∙ c .before .before .before .before .before .before .before .before .before .before .before .before .before .before .before .before .before .before .before .before .before .before .before .before .if1 .left, sym (c .before .before .before .before .before .before .before .before .before .before .before .before .before .before .before .before .before .before .before .before .before .before .is2 .ensures) ∙ c .before .before .before .before .before .before .before .before .before .before .before .before .before .before .before .before .before .before .before .before .before .if2 .left, sym (c .before .before .before .before .before .before .before .before .before .before .before .before .before .before .before .before .before .before .before .is3 .ensures) ∙ c .before .before .before .before .before .before .before .before .before .before .before .before .before .before .before .before .before .before .if3 .left, sym (c .before .before .before .before .before .before .before .before .before .before .before .before .before .before .before .before .is4 .ensures) ∙ c .before .before .before .before .before .before .before .before .before .before .before .before .before .before .before .if4 .left, sym (c .before .before .before .before .before .before .before .before .before .before .before .before .before .is5 .ensures) ∙ c .before .before .before .before .before .before .before .before .before .before .before .before .if5 .left, sym (c .before .before .before .before .before .before .before .before .before .before .is6 .ensures) ∙ c .before .before .before .before .before .before .before .before .before .if6 .left, sym (c .before .before .before .before .before .before .before .is7 .ensures) ∙ c .before .before .before .before .before .before .if7 .left, sym (c .before .before .before .before .is8 .ensures) ∙ c .before .before .before .if8 .left, sym (c .before .is9 .ensures) ∙ c .if9 .left)
+returns-10 c =
+    rw (
+      sym (c .before .before .before .before .before .before .before .before .before .before .before .before .before
+          .before .before .before .before .before .before .before .before .before .before .before .before .is .ensures)
+          ∙ c .before .before .before .before .before .before .before .before .before .before .before .before
+          .before .before
+          .before .before .before .before .before .before .before .before .before .before .if1 .left,
+      sym (c .before .before .before .before .before .before .before .before .before .before .before .before .before
+          .before .before .before .before .before .before .before .before .before .is2 .ensures)
+          ∙ c .before .before .before .before .before .before .before .before .before .before .before .before
+          .before .before
+          .before .before .before .before .before .before .before .if2 .left,
+      sym (c .before .before .before .before .before .before .before .before .before .before .before .before .before
+          .before .before .before .before .before .before .is3 .ensures)
+          ∙ c .before .before .before .before .before .before .before .before .before .before .before .before
+          .before .before
+          .before .before .before .before .if3 .left,
+      sym (c .before .before .before .before .before .before .before .before .before .before .before .before .before
+          .before .before .before .is4 .ensures)
+          ∙ c .before .before .before .before .before .before .before .before .before .before .before .before
+          .before .before
+          .before .if4 .left,
+      sym (c .before .before .before .before .before .before .before .before .before .before .before .before
+          .before .is5
+          .ensures)
+          ∙ c .before .before .before .before .before .before .before .before .before .before .before .before
+          .if5 .left,
+      sym (c .before .before .before .before .before .before .before .before .before .before .is6 .ensures)
+          ∙ c .before .before .before .before .before .before .before .before .before .if6 .left,
+      sym (c .before .before .before .before .before .before .before .is7 .ensures)
+          ∙ c .before .before .before .before .before .before .if7 .left,
+      sym (c .before .before .before .before .is8 .ensures) ∙ c .before .before .before .if8 .left,
+      sym (c .before .is9 .ensures) ∙ c .if9 .left,
+    )
 
 pub word-of-spec : {M : Type 1} → statement M
 word-of-spec =

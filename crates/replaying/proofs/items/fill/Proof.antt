@@ -30,8 +30,11 @@ loop-less c = simp length-set (omega arith)
 loop-again : tie.Need-loop-again Inv-loop μ-loop
 loop-again c =
     let l = c .before in
-    let a = l .before .args in
-    (omega arith, simp length-set (omega arith), rw (l .loop .inv .2) (fill-more (l .loop .i) (a .b) (a .d .now) (omega arith)))
+    let a = l .before .args in (
+      omega arith,
+      simp length-set (omega arith),
+      rw (l .loop .inv .2) (fill-more (l .loop .i) (a .b) (a .d .now) (omega arith)),
+    )
 
 same-length : tie.Need-same-length Inv-loop μ-loop
 same-length c = omega arith

@@ -20,7 +20,10 @@ text-requires c κs = search needs
 
 returns-2 : tie.Need-returns-2
 unfolding itemHere
-returns-2 c = (rw (ne-eqb _ _ (c .before .before .if1 .left), eq-eqb _ _ (c .before .if2 .taken)) (c .text .ensures .0), c .text .ensures .1)
+returns-2 c = (
+  rw (ne-eqb _ _ (c .before .before .if1 .left), eq-eqb _ _ (c .before .if2 .taken)) (c .text .ensures .0),
+  c .text .ensures .1,
+)
 
 add-number : tie.Need-add-number
 add-number c = search needs
@@ -30,14 +33,28 @@ number-requires c κs = search needs
 
 returns-3 : tie.Need-returns-3
 unfolding itemHere
-returns-3 c = (rw (ne-eqb _ _ (c .before .before .before .if1 .left), ne-eqb _ _ (c .before .before .if2 .left), eq-eqb _ _ (c .before .if3 .taken)) (c .number .ensures .0), c .number .ensures .1)
+returns-3 c = (
+  rw (
+    ne-eqb _ _ (c .before .before .before .if1 .left),
+    ne-eqb _ _ (c .before .before .if2 .left),
+    eq-eqb _ _ (c .before .if3 .taken),
+  ) (c .number .ensures .0),
+  c .number .ensures .1,
+)
 
 repeat-requires : tie.Need-repeat-requires
 repeat-requires c κs = search needs
 
 returns-4 : tie.Need-returns-4
 unfolding itemHere
-returns-4 c = (rw (ne-eqb _ _ (c .before .before .before .if1 .left), ne-eqb _ _ (c .before .before .if2 .left), ne-eqb _ _ (c .before .if3 .left)) (c .repeat .ensures .0), c .repeat .ensures .1)
+returns-4 c = (
+  rw (
+    ne-eqb _ _ (c .before .before .before .if1 .left),
+    ne-eqb _ _ (c .before .before .if2 .left),
+    ne-eqb _ _ (c .before .if3 .left),
+  ) (c .repeat .ensures .0),
+  c .repeat .ensures .1,
+)
 
 pub item-here-spec : {M : Type 1} → statement M
 item-here-spec =

@@ -13,7 +13,11 @@ item-here-requires c κs = search needs
 
 returns : tie.Need-returns
 unfolding itemAt itemFrom
-returns c = (rw (← c .before .before .run-end .ensures .0, lt-ltb _ _ (c .before .if1 .taken)) (c .item-here .ensures .0), c .item-here .ensures .1)
+returns c = (
+  rw (← c .before .before .run-end .ensures .0, lt-ltb _ _ (c .before .if1 .taken))
+      (c .item-here .ensures .0),
+  c .item-here .ensures .1,
+)
 
 returns-2 : tie.Need-returns-2
 unfolding itemAt itemFrom

@@ -23,8 +23,10 @@ negative-item-requires c κs = search needs
 returns : tie.Need-returns
 unfolding numberAt
 returns c = (
-  rw (sym (c .before .before .before .stands .ensures) ∙ c .before .before .if1 .taken) (c .negative-item .ensures ∙ ap negativeOf (c .before .decimal-at .ensures .0)),
-  rw (c .negative-item .ensures) (negative-inside (length (c .before .before .before .before .before .args .s .now)) (c .before .decimal-at .result) (c .before .decimal-at .ensures .1)),
+  rw (sym (c .before .before .before .stands .ensures) ∙ c .before .before .if1 .taken) (c .negative-item .ensures
+      ∙ ap negativeOf (c .before .decimal-at .ensures .0)),
+  rw (c .negative-item .ensures) (negative-inside (length (c .before .before .before .before .before .args .s .now))
+      (c .before .decimal-at .result) (c .before .decimal-at .ensures .1)),
 )
 
 decimal-at-requires-2 : tie.Need-decimal-at-requires-2
@@ -36,8 +38,10 @@ number-item-requires c κs = search needs
 returns-2 : tie.Need-returns-2
 unfolding numberAt
 returns-2 c = (
-  rw (sym (c .before .before .before .stands .ensures) ∙ c .before .before .if1 .left) (c .number-item .ensures ∙ ap numberOf (c .before .decimal-at2 .ensures .0)),
-  rw (c .number-item .ensures) (number-inside (length (c .before .before .before .before .before .args .s .now)) (c .before .decimal-at2 .result) (c .before .decimal-at2 .ensures .1)),
+  rw (sym (c .before .before .before .stands .ensures) ∙ c .before .before .if1 .left) (c .number-item .ensures
+      ∙ ap numberOf (c .before .decimal-at2 .ensures .0)),
+  rw (c .number-item .ensures) (number-inside (length (c .before .before .before .before .before .args .s .now))
+      (c .before .decimal-at2 .result) (c .before .decimal-at2 .ensures .1)),
 )
 
 pub number-spec : {M : Type 1} → statement M

@@ -38,7 +38,8 @@ sub-if1 c = search needs
 
 returns : tie.Need-returns
 returns c =
-    λ n. inr (full-repeat _ _ _ _ _ (sym (c .before .before .before .before .next-item .ensures .0) ∙ c .before .before .b .given .1) _ _ (omega arith) n)
+    λ n. inr (full-repeat _ _ _ _ _ (sym (c .before .before .before .before .next-item .ensures .0)
+    ∙ c .before .before .b .given .1) _ _ (omega arith) n)
 
 put-repeat-requires : tie.Need-put-repeat-requires
 put-repeat-requires c κs = search needs
@@ -54,7 +55,8 @@ sub-if2 c = search needs
 
 returns-2 : tie.Need-returns-2
 returns-2 c =
-    λ n. inr (full-number _ _ _ _ (sym (c .before .before .before .before .next-item .ensures .0) ∙ c .before .before .v .given .1) _ _ (omega arith) n)
+    λ n. inr (full-number _ _ _ _ (sym (c .before .before .before .before .next-item .ensures .0)
+    ∙ c .before .before .v .given .1) _ _ (omega arith) n)
 
 put-u32-requires : tie.Need-put-u32-requires
 put-u32-requires c κs = search needs
@@ -74,7 +76,8 @@ sub-if3-2 c = text-inside (c .before) .0
 returns-3 : tie.Need-returns-3
 returns-3 c =
     let h = text-inside (c .before .before) in
-    λ n. inr (full-text _ _ _ _ _ (sym (c .before .before .before .before .next-item .ensures .0) ∙ c .before .before .a .given .1) _ _ (h .1) (omega arith) n)
+    λ n. inr (full-text _ _ _ _ _ (sym (c .before .before .before .before .next-item .ensures .0)
+    ∙ c .before .before .a .given .1) _ _ (h .1) (omega arith) n)
 
 sub-copy-part : tie.Need-sub-copy-part
 sub-copy-part c = text-inside (c .before .before .before) .0
@@ -100,7 +103,8 @@ returns-4 c =
     record { none = line-end _ _ e; right = right-end _ _ e; count = refl; same = refl }
 
 returns-5 : tie.Need-returns-5
-returns-5 c = λ n. inl (right-bad _ _ _ (sym (c .before .before .before .next-item .ensures .0) ∙ c .before .f .given .1) n)
+returns-5 c = λ n. inl (right-bad _ _ _ (sym (c .before .before .before .next-item .ensures .0)
+    ∙ c .before .f .given .1) n)
 
 same-length : tie.Need-same-length
 same-length c = search needs

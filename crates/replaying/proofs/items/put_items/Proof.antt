@@ -49,8 +49,13 @@ returns c =
     let s = l .before .before .before .args .s .now in
     let z = ap (λ (x : ℕ). lineBytes x s (l .loop .p)) q ∙ e .none (l .loop .left - 1) in
     let y = ap (λ (x : ℕ). lineRight x s (l .loop .p)) q ∙ e .right (l .loop .left - 1) in
-    let i = l .loop .inv in
-    (i .5 ∙ y, e .count ∙ all-count _ _ _ _ _ _ (i .3) (i .4) z, omega arith, e .same ∙ all-put _ _ _ _ _ _ (i .3) (i .4) z)
+    let i = l .loop .inv in (
+      i .5 ∙ y,
+      e .count ∙ all-count _ _ _ _ _ _ (i .3) (i .4) z,
+      omega arith,
+      e .same
+          ∙ all-put _ _ _ _ _ _ (i .3) (i .4) z,
+    )
 
 enum-known-f : tie.Need-enum-known-f Inv-loop μ-loop
 enum-known-f c = search needs
@@ -85,8 +90,10 @@ loop-again c =
       w .1 .inText,
       omega arith,
       omega arith,
-      i .3 ∙ ap (λ (x : ℕ). put (l .loop .n) (lineBytes x s (l .loop .p)) (l .loop .d)) q ∙ turn-put _ _ _ _ _ _ _ _ (w .1) (l .loop .left - 1) (i .1),
-      i .4 ∙ ap (λ (x : ℕ). l .loop .n + length (lineBytes x s (l .loop .p))) q ∙ turn-count _ _ _ _ _ _ _ _ (w .1) (l .loop .left - 1),
+      i .3 ∙ ap (λ (x : ℕ). put (l .loop .n) (lineBytes x s (l .loop .p)) (l .loop .d)) q
+          ∙ turn-put _ _ _ _ _ _ _ _ (w .1) (l .loop .left - 1) (i .1),
+      i .4 ∙ ap (λ (x : ℕ). l .loop .n + length (lineBytes x s (l .loop .p))) q
+          ∙ turn-count _ _ _ _ _ _ _ _ (w .1) (l .loop .left - 1),
       i .5 ∙ ap (λ (x : ℕ). lineRight x s (l .loop .p)) q ∙ w .1 .right (l .loop .left - 1),
     )
 

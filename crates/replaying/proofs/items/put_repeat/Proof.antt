@@ -32,7 +32,8 @@ returns c =
     let a = c .before .before .before .before .before .args in
     let n : a .at + a .times - a .at ≡ a .times = omega arith in
     let m = mid-len (a .at) (a .at + a .times) (a .d .now) (omega arith) in
-    rw length-replicate (part-back (a .at) (a .at + a .times) (a .d .now) _ _ (omega arith) (c .before .before .fill .ensures ∙ ap (λ (k : ℕ). replicate k (a .b)) (m ∙ n)))
+    rw length-replicate (part-back (a .at) (a .at + a .times) (a .d .now) _ _ (omega arith)
+    (c .before .before .fill .ensures ∙ ap (λ (k : ℕ). replicate k (a .b)) (m ∙ n)))
 
 pub put-repeat-spec : {M : Type 1} → statement M
 put-repeat-spec =

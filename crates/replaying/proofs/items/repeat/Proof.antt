@@ -36,9 +36,18 @@ repeat-item-requires c κs = search needs
 returns : tie.Need-returns
 unfolding repeatAt repeatBy
 returns c = (
-  rw (sym (c .before .before .before .before .before .before .before .pair-at .ensures) ∙ c .before .before .before .before .before .b .given .1, sym (c .before .before .before .stands .ensures) ∙ c .before .before .if1 .taken)
-      (c .repeat-item .ensures ∙ ap (repeatOf (c .before .before .before .before .before .b .given .0 .0)) (c .before .decimal-at .ensures .0)),
-  rw (c .repeat-item .ensures) (repeat-inside (length (c .before .before .before .before .before .before .before .before .before .args .s .now)) (c .before .before .before .before .before .b .given .0 .0) (c .before .decimal-at .result) (c .before .decimal-at .ensures .1)),
+  rw (
+    sym (c .before .before .before .before .before .before .before .pair-at .ensures)
+        ∙ c .before .before .before .before .before .b .given .1,
+    sym (c .before .before .before .stands .ensures)
+        ∙ c .before .before .if1 .taken,
+  )
+      (c .repeat-item .ensures ∙ ap (repeatOf (c .before .before .before .before .before .b .given .0 .0))
+      (c .before .decimal-at .ensures .0)),
+  rw (c .repeat-item .ensures)
+      (repeat-inside (length (c .before .before .before .before .before .before .before .before .before .args .s .now))
+      (c .before .before .before .before .before .b .given .0 .0) (c .before .decimal-at .result)
+      (c .before .decimal-at .ensures .1)),
 )
 
 add-t8 : tie.Need-add-t8
@@ -51,8 +60,12 @@ returns-2 c = (rw (sym (c .before .before .pair-at .ensures) ∙ c .enum-told .g
 returns-3 : tie.Need-returns-3
 unfolding repeatAt repeatBy
 returns-3 c = (
-  rw (sym (c .before .before .before .before .before .pair-at .ensures) ∙ c .before .before .before .b .given .1, sym (c .before .stands .ensures) ∙ c .if1 .left),
-  pair-inside _ _ _ (sym (c .before .before .before .before .before .pair-at .ensures) ∙ c .before .before .before .b .given .1),
+  rw (
+    sym (c .before .before .before .before .before .pair-at .ensures) ∙ c .before .before .before .b .given .1,
+    sym (c .before .stands .ensures) ∙ c .if1 .left,
+  ),
+  pair-inside _ _ _ (sym (c .before .before .before .before .before .pair-at .ensures)
+      ∙ c .before .before .before .b .given .1),
 )
 
 pub repeat-spec : {M : Type 1} → statement M

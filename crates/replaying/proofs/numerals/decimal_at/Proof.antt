@@ -21,7 +21,10 @@ run-end-requires c κs = search needs
 
 returns : tie.Need-returns
 unfolding decimalAt decimalTo
-returns c = (rw (← c .before .run-end .ensures .0) (sym (decimal-none _ _ _ (simp (length-take, length-drop) (omega arith)))), tt)
+returns c = (
+  rw (← c .before .run-end .ensures .0) (sym (decimal-none _ _ _ (simp (length-take, length-drop) (omega arith)))),
+  tt,
+)
 
 sub-value : tie.Need-sub-value
 sub-value c = search needs
@@ -37,14 +40,23 @@ value-requires c κs = search needs
 
 returns-2 : tie.Need-returns-2
 unfolding decimalAt decimalTo
-returns-2 c = (rw (← c .before .before .before .before .run-end .ensures .0) (sym (decimal-large _ _ _ (some (c .before .before .before)) (c .before .value .ensures .1 (c .if2 .taken)))), tt)
+returns-2 c = (
+  rw (← c .before .before .before .before .run-end .ensures .0)
+      (sym (decimal-large _ _ _ (some (c .before .before .before)) (c .before .value .ensures .1 (c .if2 .taken)))),
+  tt,
+)
 
 cast-t13 : tie.Need-cast-t13
 cast-t13 c = search needs
 
 returns-3 : tie.Need-returns-3
 unfolding decimalAt decimalTo
-returns-3 c = (rw (← c .before .before .before .before .run-end .ensures .0) (sym (decimal-value _ _ _ (some (c .before .before .before)) _ (c .before .value .ensures .0 (c .if2 .left)) (c .if2 .left))), omega arith)
+returns-3 c = (
+  rw (← c .before .before .before .before .run-end .ensures .0)
+      (sym (decimal-value _ _ _ (some (c .before .before .before)) _ (c .before .value .ensures .0 (c .if2 .left))
+      (c .if2 .left))),
+  omega arith,
+)
 
 pub decimal-at-spec : {M : Type 1} → statement M
 decimal-at-spec =

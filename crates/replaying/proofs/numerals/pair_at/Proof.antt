@@ -29,11 +29,21 @@ hex-digit-requires-2 c κs = search needs
 
 returns-2 : tie.Need-returns-2
 unfolding pairAt pairOf
-returns-2 c = rw (le-ltb _ _ (c .before .before .before .before .before .if1 .left), ← c .before .before .before .hex-digit .ensures, lt-ltb _ _ (c .if2 .taken))
+returns-2 c = rw (
+  le-ltb _ _ (c .before .before .before .before .before .if1 .left),
+  ← c .before .before .before .hex-digit .ensures,
+  lt-ltb _ _ (c .if2 .taken),
+)
 
 returns-3 : tie.Need-returns-3
 unfolding pairAt pairOf
-returns-3 c = rw (le-ltb _ _ (c .before .before .before .before .before .before .if1 .left), ← c .before .before .before .before .hex-digit .ensures, ← c .before .before .hex-digit2 .ensures, le-ltb _ _ (c .before .if2 .left), lt-ltb _ _ (c .if3 .taken))
+returns-3 c = rw (
+  le-ltb _ _ (c .before .before .before .before .before .before .if1 .left),
+  ← c .before .before .before .before .hex-digit .ensures,
+  ← c .before .before .hex-digit2 .ensures,
+  le-ltb _ _ (c .before .if2 .left),
+  lt-ltb _ _ (c .if3 .taken),
+)
 
 mul-t9 : tie.Need-mul-t9
 mul-t9 c = search needs
@@ -43,7 +53,13 @@ add-t11 c = search needs
 
 returns-4 : tie.Need-returns-4
 unfolding pairAt pairOf
-returns-4 c = rw (le-ltb _ _ (c .before .before .before .before .before .before .if1 .left), ← c .before .before .before .before .hex-digit .ensures, ← c .before .before .hex-digit2 .ensures, le-ltb _ _ (c .before .if2 .left), le-ltb _ _ (c .if3 .left))
+returns-4 c = rw (
+  le-ltb _ _ (c .before .before .before .before .before .before .if1 .left),
+  ← c .before .before .before .before .hex-digit .ensures,
+  ← c .before .before .hex-digit2 .ensures,
+  le-ltb _ _ (c .before .if2 .left),
+  le-ltb _ _ (c .if3 .left),
+)
 
 pub pair-at-spec : {M : Type 1} → statement M
 pair-at-spec =

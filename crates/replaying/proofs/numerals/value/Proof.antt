@@ -43,8 +43,16 @@ add-acc c = omega (arith, c .before .shared-slice-known2 .given (c .before .befo
 
 returns : tie.Need-returns Inv-loop μ-loop
 returns c =
-    let v = valued (c .before) in
-    (λ h. absurd (omega arith), λ h. rw v (omega (arith, value-grows (c .before .before .before .before .loop .acc * 10 + c .before .digit .result) (drop (c .before .before .before .before .loop .i + 1) (c .before .before .before .before .before .before .args .d .now)))))
+    let v = valued (c .before) in (
+      λ h. absurd (omega arith),
+      λ h. rw v
+          (omega (
+            arith,
+            value-grows (c .before .before .before .before .loop .acc * 10 + c .before .digit .result)
+                (drop (c .before .before .before .before .loop .i + 1)
+                (c .before .before .before .before .before .before .args .d .now)),
+          )),
+    )
 
 add-i : tie.Need-add-i Inv-loop μ-loop
 add-i c = omega arith

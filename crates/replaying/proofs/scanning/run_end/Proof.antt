@@ -26,8 +26,13 @@ is-of-requires c κs = tt
 
 returns : tie.Need-returns Inv-loop μ-loop
 returns c =
-    let l = c .before .before .before .before in
-    (sym (l .loop .inv .2 ∙ run-stop _ _ _ (c .before .before .before .loop-test .taken) (sym (c .before .is-of .ensures) ∙ not-true _ (c .if1 .taken))), omega arith, omega arith)
+    let l = c .before .before .before .before in (
+      sym (l .loop .inv .2
+          ∙ run-stop _ _ _ (c .before .before .before .loop-test .taken) (sym (c .before .is-of .ensures)
+          ∙ not-true _ (c .if1 .taken))),
+      omega arith,
+      omega arith,
+    )
 
 add-i : tie.Need-add-i Inv-loop μ-loop
 add-i c = omega arith
@@ -37,8 +42,13 @@ loop-less c = omega arith
 
 loop-again : tie.Need-loop-again Inv-loop μ-loop
 loop-again c =
-    let l = c .before .before .before .before in
-    (omega arith, omega arith, l .loop .inv .2 ∙ run-more _ _ _ (c .before .before .before .loop-test .taken) (sym (c .before .is-of .ensures) ∙ not-false _ (c .if1 .left)))
+    let l = c .before .before .before .before in (
+      omega arith,
+      omega arith,
+      l .loop .inv .2
+          ∙ run-more _ _ _ (c .before .before .before .loop-test .taken) (sym (c .before .is-of .ensures)
+          ∙ not-false _ (c .if1 .left)),
+    )
 
 returns-2 : tie.Need-returns-2 Inv-loop μ-loop
 returns-2 c = (sym (c .before .loop .inv .2 ∙ run-none _ _ _ (c .loop-test .left)), omega arith, omega arith)
