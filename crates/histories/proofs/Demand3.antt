@@ -17,7 +17,7 @@ use Rattle.histories.specs.Runs.{Call, Heard, hears, leaves, ruleOutcome
 use Rattle.histories.specs.Runs.{isLease, isData, noRoom, Never, Woven}
 use Rattle.rules.specs.Changes.{Change, sizeAfter, byteAfter, changesOf}
 use Rattle.histories.specs.Accepted.{took, accepted}
-use Rattle.histories.specs.Claims.{Alike, ByRules, Told, Demand3}
+use Rattle.histories.specs.Claims.{Alike, ByRules, Told, Demand3, Histories}
 use Rattle.histories.proofs.Sides.{agree}
 use Rattle.histories.proofs.Follows.{valid-final, follows-answers, follows-final}
 use Rattle.rules.proofs.ChangeLaws.{performAll, length-performAll, at-performAll, performAll-append, after-bytes}
@@ -28,7 +28,8 @@ use Rattle.histories.proofs.Steps.{data-calls, lease-calls, follows}
 pub by-rules : (h : List Call) (p : Parts) → Valid p → ByRules h (encode p) p
 by-rules h p v =
     let f : Valid (final ruleLeaves h p) = valid-final Valid encode ruleHears ruleLeaves hears leaves follows h p v in
-    let e : final leaves h (encode p) ≡ encode (final ruleLeaves h p) = follows-final Valid encode ruleHears ruleLeaves hears leaves follows h p v in
+    let e : final leaves h (encode p) ≡ encode (final ruleLeaves h p) =
+    follows-final Valid encode ruleHears ruleLeaves hears leaves follows h p v in
     record {
       heard = follows-answers Valid encode ruleHears ruleLeaves hears leaves follows h p v;
       buffer = e;
@@ -44,18 +45,29 @@ room-final (x ∷ h) p = room-final h (ruleLeaves x p) ∙ room-stays x p
 
 pub parts-agree : (p q : Parts) → dataSide p ≡ dataSide q → leaseSide p ≡ leaseSide q → p .room ≡ q .room → p ≡ q
 unfolding dataSide leaseSide
-parts-agree p q d l r = λ i. record { room = r i; node = d i .node; enabler = d i .enabler; bytes = d i .bytes; leases = l i .leases }
+parts-agree p q d l r = λ i. record {
+  room = r i;
+  node = d i .node;
+  enabler = d i .enabler;
+  bytes = d i .bytes;
+  leases =
+      l i .leases;
+}
 
 pub woven-alike : (h k : List Call) (p : Parts) → Valid p → Woven h k →
-    Never noRoom (answers hears leaves h (encode p)) → Never noRoom (answers hears leaves k (encode p)) → Alike h k (encode p)
+    Never noRoom (answers hears leaves h (encode p)) → Never noRoom (answers hears leaves k (encode p))
+    → Alike h k (encode p)
 woven-alike h k p v w nh nk =
     let bh : ByRules h (encode p) p = by-rules h p v in
     let bk : ByRules k (encode p) p = by-rules k p v in
     let mh : Never noRoom (answers ruleHears ruleLeaves h p) = rw (bh .heard) at nh in
     let mk : Never noRoom (answers ruleHears ruleLeaves k p) = rw (bk .heard) at nk in
-    let d = agree isData noRoom ruleHears ruleLeaves dataSide (λ x p. heardBy (earlyOf x p) x p) (λ x p. leftBy (earlyOf x p) x p) data-calls h k p (w .data-calls) mh mk in
-    let l = agree isLease noRoom ruleHears ruleLeaves leaseSide (λ x p. heardBy (earlyOf x p) x p) (λ x p. leftBy (earlyOf x p) x p) lease-calls h k p (w .lease-calls) mh mk in
-    let e : final ruleLeaves h p ≡ final ruleLeaves k p = parts-agree (final ruleLeaves h p) (final ruleLeaves k p) (d .view-agrees) (l .view-agrees) (room-final h p ∙ sym (room-final k p)) in
+    let d = agree isData noRoom ruleHears ruleLeaves dataSide (λ x p. heardBy (earlyOf x p) x p)
+    (λ x p. leftBy (earlyOf x p) x p) data-calls h k p (w .data-calls) mh mk in
+    let l = agree isLease noRoom ruleHears ruleLeaves leaseSide (λ x p. heardBy (earlyOf x p) x p)
+    (λ x p. leftBy (earlyOf x p) x p) lease-calls h k p (w .lease-calls) mh mk in
+    let e : final ruleLeaves h p ≡ final ruleLeaves k p = parts-agree (final ruleLeaves h p) (final ruleLeaves k p)
+    (d .view-agrees) (l .view-agrees) (room-final h p ∙ sym (room-final k p)) in
     record {
       data-heard = rw (bh .heard, bk .heard) (d .answers-agree);
       lease-heard = rw (bh .heard, bk .heard) (l .answers-agree);
@@ -63,21 +75,25 @@ woven-alike h k p v w nh nk =
     }
 
 -- ---- the data bytes: the accepted changes, performed
-pub step-bytes : (x : Call) (p : Parts) → ruleLeaves x p .bytes ≡ performAll (took x (ruleHears x p) (length (p .bytes))) (p .bytes)
+pub step-bytes : (x : Call) (p : Parts) → ruleLeaves x p .bytes
+    ≡ performAll (took x (ruleHears x p) (length (p .bytes))) (p .bytes)
 unfolding ruleLeaves took performAll
 step-bytes x p = rw heard-number (go (eqb (ruleOutcome x p) 0))
   where
-    go : (b : Bool) → (cond b (afterOf p (requestOf (x .request))) p) .bytes ≡ performAll (cond b (changesOf (requestOf (x .request)) (length (p .bytes))) []) (p .bytes)
+    go : (b : Bool) → (cond b (afterOf p (requestOf (x .request))) p) .bytes
+        ≡ performAll (cond b (changesOf (requestOf (x .request)) (length (p .bytes))) []) (p .bytes)
     go true = after-bytes p (requestOf (x .request))
     go false = refl
 
-bytes-accepted : (h : List Call) (p : Parts) → final ruleLeaves h p .bytes ≡ performAll (accepted h (answers ruleHears ruleLeaves h p) (length (p .bytes))) (p .bytes)
+bytes-accepted : (h : List Call) (p : Parts) → final ruleLeaves h p .bytes
+    ≡ performAll (accepted h (answers ruleHears ruleLeaves h p) (length (p .bytes))) (p .bytes)
 unfolding final answers accepted performAll
 bytes-accepted [] p = refl
 bytes-accepted (x ∷ xs) p =
     let d : List ℕ = p .bytes in
     let os : List Change = took x (ruleHears x p) (length d) in
-    let n : length (ruleLeaves x p .bytes) ≡ sizeAfter os (length d) = ap length (step-bytes x p) ∙ length-performAll os d in
+    let n : length (ruleLeaves x p .bytes) ≡ sizeAfter os (length d) = ap length (step-bytes x p)
+    ∙ length-performAll os d in
     let heard : List Heard = answers ruleHears ruleLeaves xs (ruleLeaves x p) in
     bytes-accepted xs (ruleLeaves x p)
     ∙ ap (λ (k : ℕ). performAll (accepted xs heard k) (ruleLeaves x p .bytes)) n
@@ -88,7 +104,8 @@ pub told : (os : List Change) → Told os (performAll os [])
 unfolding byteAfter
 told os = record { size = length-performAll os []; each = λ i. at-performAll os [] i }
 
-pub data-told : (h : List Call) (p : Parts) → Valid p → p .bytes ≡ [] → Told (accepted h (answers hears leaves h (encode p)) 0) (dataOf (final leaves h (encode p)))
+pub data-told : (h : List Call) (p : Parts) → Valid p → p .bytes ≡ []
+    → Told (accepted h (answers hears leaves h (encode p)) 0) (dataOf (final leaves h (encode p)))
 data-told h p v e =
     let b : ByRules h (encode p) p = by-rules h p v in
     let f : Valid (final ruleLeaves h p) = valid-final Valid encode ruleHears ruleLeaves hears leaves follows h p v in
@@ -97,9 +114,19 @@ data-told h p v e =
     rw (b .buffer, b .heard, data-encode (final ruleLeaves h p) f, d) (told os)
 
 pub demand-3-parts : (p : Parts) → Valid p → p .bytes ≡ [] → Demand3 (encode p) p
-demand-3-parts p v e = record { woven = λ h k. woven-alike h k p v; rules = λ h. by-rules h p v; told = λ h. data-told h p v e }
+demand-3-parts p v e = record {
+  woven = λ h k. woven-alike h k p v;
+  rules = λ h. by-rules h p v;
+  told =
+      λ h. data-told h p v e;
+}
 
--- DEMAND 3: of every container that create has just made with outcome 0, at any allowed buffer length
-pub demand-3 : (b node enabler : List ℕ) → createOutcome b node enabler ≡ 0 → Demand3 (createdContainer b node enabler) (fresh (length b) node enabler)
+demand-3-created : (b node enabler : List ℕ) → createOutcome b node enabler ≡ 0
+    → Demand3 (createdContainer b node enabler) (fresh (length b) node enabler)
 unfolding fresh
-demand-3 b node enabler e = rw (created b node enabler e) (demand-3-parts (fresh (length b) node enabler) (created-valid b node enabler e) refl)
+demand-3-created b node enabler e = rw (created b node enabler e) (demand-3-parts (fresh (length b) node enabler)
+    (created-valid b node enabler e) refl)
+
+-- DEMAND 3
+pub demand-3 : (b node enabler : List ℕ) → Histories b node enabler
+demand-3 b node enabler = record { fresh-made = demand-3-created b node enabler }

@@ -117,7 +117,7 @@ module _ (b node enabler : List ℕ) (fresh : createOutcome b node enabler ≡ 0
   incident-byte : (i : ℕ) → m ≤ i → getD (dataOf (end c before x after)) i 0 ≡ byteAfter since i
   unfolding since
   incident-byte i h =
-      let d : Demand3 c _ = demand-3 b node enabler fresh in
+      let d : Demand3 c _ = demand-3 b node enabler .fresh-made fresh in
       let s : length (dataOf (middle c before x)) ≡ sizeAfter (changes (before ++ (x ∷ [])) c 0) 0 =
       d .told (before ++ (x ∷ [])) .size in
       let a = accepted-cut before x c m cuts in

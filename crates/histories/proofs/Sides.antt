@@ -5,7 +5,8 @@ use mathlib.Core.Bool.{Bool, true, false}
 use mathlib.Core.List.{List, [], _∷_}
 use Rattle.histories.specs.Runs.{answers, final, only, beside, Never}
 
-module _ {R A S P : Type 0} (mine : R → Bool) (bad : A → Bool) (ans : R → S → A) (next : R → S → S) (view : S → P) (pans : R → P → A) (pnext : R → P → P) where
+module _ {R A S P : Type 0} (mine : R → Bool) (bad : A → Bool) (ans : R → S → A) (next : R → S → S) (view : S
+    → P) (pans : R → P → A) (pnext : R → P → P) where
   pub record Sided : Type 0 where
     pub answer : (r : R) (s : S) → mine r ≡ true → bad (ans r s) ≡ false → ans r s ≡ pans r (view s)
     pub moves : (r : R) (s : S) → mine r ≡ true → bad (ans r s) ≡ false → view (next r s) ≡ pnext r (view s)
@@ -15,14 +16,24 @@ module _ {R A S P : Type 0} (mine : R → Bool) (bad : A → Bool) (ans : R → 
     pub on-side : beside mine h (answers ans next h s) ≡ answers pans pnext (only mine h) (view s)
     pub ends : view (final next h s) ≡ final pnext (only mine h) (view s)
 
-  seen-step : Sided → (r : R) (rs : List R) (s : S) → Seen rs (next r s) → bad (ans r s) ≡ false → (b : Bool) → mine r ≡ b → Seen (r ∷ rs) s
+  seen-step : Sided → (r : R) (rs : List R) (s : S) → Seen rs (next r s) → bad (ans r s) ≡ false → (b : Bool) → mine r
+      ≡ b → Seen (r ∷ rs) s
   unfolding answers final only beside
   seen-step x r rs s i n true e =
       let v : view (next r s) ≡ pnext r (view s) = x .moves r s e n in
-      record { on-side = rw e (ap₂ _∷_ (x .answer r s e n) (i .on-side ∙ ap (answers pans pnext (only mine rs)) v)); ends = rw e (i .ends ∙ ap (final pnext (only mine rs)) v) }
+      record {
+        on-side =
+            rw e (ap₂ _∷_ (x .answer r s e n) (i .on-side ∙ ap (answers pans pnext (only mine rs)) v));
+        ends =
+            rw e (i .ends ∙ ap (final pnext (only mine rs)) v);
+      }
   seen-step x r rs s i n false e =
       let v : view (next r s) ≡ view s = x .stays r s e n in
-      record { on-side = rw e (i .on-side ∙ ap (answers pans pnext (only mine rs)) v); ends = rw e (i .ends ∙ ap (final pnext (only mine rs)) v) }
+      record {
+        on-side = rw e (i .on-side ∙ ap (answers pans pnext (only mine rs)) v);
+        ends = rw e (i .ends
+            ∙ ap (final pnext (only mine rs)) v);
+      }
 
   pub seen : Sided → (h : List R) (s : S) → Never bad (answers ans next h s) → Seen h s
   unfolding answers final only beside
@@ -34,7 +45,8 @@ module _ {R A S P : Type 0} (mine : R → Bool) (bad : A → Bool) (ans : R → 
     pub view-agrees : view (final next h s) ≡ view (final next k s)
 
   -- two histories with the same requests of this side, whatever else they hold and wherever that stands
-  pub agree : Sided → (h k : List R) (s : S) → only mine h ≡ only mine k → Never bad (answers ans next h s) → Never bad (answers ans next k s) → Agree h k s
+  pub agree : Sided → (h k : List R) (s : S) → only mine h ≡ only mine k → Never bad (answers ans next h s)
+      → Never bad (answers ans next k s) → Agree h k s
   agree x h k s e nh nk =
       let p : Seen h s = seen x h s nh in
       let q : Seen k s = seen x k s nk in

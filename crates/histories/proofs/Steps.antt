@@ -94,7 +94,8 @@ same-choice true p = refl
 same-choice false p = refl
 
 data-alone-by : (x : Call) (p : Parts) → isLease x ≡ false → Kinds (x .request) → Alone dataSide x p
-unfolding heardBy leftBy earlyOf early earlyRows firstRow dataSide rows admitRows findRows replyTo replyBytes maybe counted answerTo afterOf after withBytes testWriteOf
+unfolding heardBy leftBy earlyOf early earlyRows firstRow dataSide rows admitRows findRows replyTo replyBytes maybe
+    counted answerTo afterOf after withBytes testWriteOf
 data-alone-by x p l (broken e) = record { number = rw e refl; heard = rw e refl; after-side = rw e refl }
 data-alone-by x p l (tests k h o e) = record { number = rw e refl; heard = rw e refl; after-side = rw e refl }
 data-alone-by x p l (adds k o e) = never (lease-kind x 2 k) l
@@ -103,7 +104,8 @@ data-alone-by x p l (cancels k o e) = never (lease-kind x 4 k) l
 data-alone-by x p l (reads k o e) = record { number = rw e refl; heard = rw e refl; after-side = rw e refl }
 
 lease-alone-by : (x : Call) (p : Parts) → isLease x ≡ true → Kinds (x .request) → Alone leaseSide x p
-unfolding heardBy leftBy earlyOf early earlyRows firstRow leaseSide rows admitRows findRows replyTo replyBytes maybe counted answerTo afterOf after withLeases
+unfolding heardBy leftBy earlyOf early earlyRows firstRow leaseSide rows admitRows findRows replyTo replyBytes maybe
+    counted answerTo afterOf after withLeases
 lease-alone-by x p l (broken e) = record { number = rw e refl; heard = rw e refl; after-side = rw e refl }
 lease-alone-by x p l (tests k h o e) = never l (lease-kind x 1 k)
 lease-alone-by x p l (adds k o e) = record { number = rw e refl; heard = rw e refl; after-side = rw e refl }
@@ -111,14 +113,17 @@ lease-alone-by x p l (renews k o e) = record { number = rw e refl; heard = rw e 
 lease-alone-by x p l (cancels k o e) = record { number = rw e refl; heard = rw e refl; after-side = rw e refl }
 lease-alone-by x p l (reads k o e) = never l (lease-kind x 5 k)
 
-pub alone-left : (side : Parts → Parts) (x : Call) (p : Parts) → Alone side x p → side (leftBy (earlyOf x p) x p) ≡ leftBy (earlyOf x (side p)) x (side p)
+pub alone-left : (side : Parts → Parts) (x : Call) (p : Parts) → Alone side x p → side (leftBy (earlyOf x p) x p)
+    ≡ leftBy (earlyOf x (side p)) x (side p)
 unfolding leftBy
 alone-left side x p a =
     side-choice side (eqb (earlyOf x p) 0) (afterOf p (requestOf (x .request))) p
-    ∙ rw (a .after-side) (ap (λ (n : ℕ). cond (eqb n 0) (afterOf (side p) (requestOf (x .request))) (side p)) (a .number))
+    ∙ rw (a .after-side) (ap (λ (n : ℕ). cond (eqb n 0) (afterOf (side p) (requestOf (x .request))) (side p))
+    (a .number))
 
 -- a call of the other side leaves a side as it was
-data-stays-by : (x : Call) (p : Parts) → isLease x ≡ true → Kinds (x .request) → dataSide (afterOf p (requestOf (x .request))) ≡ dataSide p
+data-stays-by : (x : Call) (p : Parts) → isLease x ≡ true → Kinds (x .request)
+    → dataSide (afterOf p (requestOf (x .request))) ≡ dataSide p
 unfolding dataSide afterOf maybe after withLeases
 data-stays-by x p l (broken e) = rw e refl
 data-stays-by x p l (tests k h o e) = never l (lease-kind x 1 k)
@@ -127,7 +132,8 @@ data-stays-by x p l (renews k o e) = rw e refl
 data-stays-by x p l (cancels k o e) = rw e refl
 data-stays-by x p l (reads k o e) = never l (lease-kind x 5 k)
 
-lease-stays-by : (x : Call) (p : Parts) → isLease x ≡ false → Kinds (x .request) → leaseSide (afterOf p (requestOf (x .request))) ≡ leaseSide p
+lease-stays-by : (x : Call) (p : Parts) → isLease x ≡ false → Kinds (x .request)
+    → leaseSide (afterOf p (requestOf (x .request))) ≡ leaseSide p
 unfolding leaseSide afterOf maybe after withBytes testWriteOf
 lease-stays-by x p l (broken e) = rw e refl
 lease-stays-by x p l (tests k h o e) = rw e refl
@@ -136,9 +142,11 @@ lease-stays-by x p l (renews k o e) = never (lease-kind x 3 k) l
 lease-stays-by x p l (cancels k o e) = never (lease-kind x 4 k) l
 lease-stays-by x p l (reads k o e) = rw e refl
 
-pub stays-left : (side : Parts → Parts) (n : ℕ) (x : Call) (p : Parts) → side (afterOf p (requestOf (x .request))) ≡ side p → side (leftBy n x p) ≡ side p
+pub stays-left : (side : Parts → Parts) (n : ℕ) (x : Call) (p : Parts) → side (afterOf p (requestOf (x .request)))
+    ≡ side p → side (leftBy n x p) ≡ side p
 unfolding leftBy
-stays-left side n x p e = side-choice side (eqb n 0) (afterOf p (requestOf (x .request))) p ∙ rw e (same-choice (eqb n 0) (side p))
+stays-left side n x p e = side-choice side (eqb n 0) (afterOf p (requestOf (x .request))) p
+    ∙ rw e (same-choice (eqb n 0) (side p))
 
 -- no call changes the buffer's length
 room-after : (p : Parts) (r : Option Request) → afterOf p r .room ≡ p .room
@@ -159,19 +167,25 @@ room-stays x p = go (eqb (ruleOutcome x p) 0)
     go false = refl
 
 -- ---- the two sides of the rules
-pub data-calls : Sided isData noRoom ruleHears ruleLeaves dataSide (λ x p. heardBy (earlyOf x p) x p) (λ x p. leftBy (earlyOf x p) x p)
+pub data-calls : Sided isData noRoom ruleHears ruleLeaves dataSide (λ x p. heardBy (earlyOf x p) x p)
+    (λ x p. leftBy (earlyOf x p) x p)
 unfolding isData
 data-calls = record {
   answer = λ x p m r. hears-roomy x p r ∙ data-alone-by x p (not-true m) (kinds (x .request)) .heard;
-  moves = λ x p m r. ap dataSide (leaves-roomy x p r) ∙ alone-left dataSide x p (data-alone-by x p (not-true m) (kinds (x .request)));
-  stays = λ x p m r. ap dataSide (leaves-roomy x p r) ∙ stays-left dataSide (earlyOf x p) x p (data-stays-by x p (not-false (isLease x) m) (kinds (x .request)));
+  moves = λ x p m r. ap dataSide (leaves-roomy x p r)
+      ∙ alone-left dataSide x p (data-alone-by x p (not-true m) (kinds (x .request)));
+  stays = λ x p m r. ap dataSide (leaves-roomy x p r)
+      ∙ stays-left dataSide (earlyOf x p) x p (data-stays-by x p (not-false (isLease x) m) (kinds (x .request)));
 }
 
-pub lease-calls : Sided isLease noRoom ruleHears ruleLeaves leaseSide (λ x p. heardBy (earlyOf x p) x p) (λ x p. leftBy (earlyOf x p) x p)
+pub lease-calls : Sided isLease noRoom ruleHears ruleLeaves leaseSide (λ x p. heardBy (earlyOf x p) x p)
+    (λ x p. leftBy (earlyOf x p) x p)
 lease-calls = record {
   answer = λ x p m r. hears-roomy x p r ∙ lease-alone-by x p m (kinds (x .request)) .heard;
-  moves = λ x p m r. ap leaseSide (leaves-roomy x p r) ∙ alone-left leaseSide x p (lease-alone-by x p m (kinds (x .request)));
-  stays = λ x p m r. ap leaseSide (leaves-roomy x p r) ∙ stays-left leaseSide (earlyOf x p) x p (lease-stays-by x p m (kinds (x .request)));
+  moves = λ x p m r. ap leaseSide (leaves-roomy x p r)
+      ∙ alone-left leaseSide x p (lease-alone-by x p m (kinds (x .request)));
+  stays = λ x p m r. ap leaseSide (leaves-roomy x p r)
+      ∙ stays-left leaseSide (earlyOf x p) x p (lease-stays-by x p m (kinds (x .request)));
 }
 
 -- ---- bytes follow parts
@@ -181,13 +195,16 @@ hears-encode x p v = rw (outcome-encode p (x .request) (length (x .space)) v, pa
 
 leaves-encode : (x : Call) (p : Parts) → Valid p → leaves x (encode p) ≡ encode (ruleLeaves x p)
 unfolding leaves ruleLeaves ruleOutcome containerAfter
-leaves-encode x p v = rw (outcome-encode p (x .request) (length (x .space)) v, parts-encode p v) (go (eqb (firstRow (requestRows p (requestOf (x .request)) (length (x .space)))) 0))
+leaves-encode x p v = rw (outcome-encode p (x .request) (length (x .space)) v, parts-encode p v)
+    (go (eqb (firstRow (requestRows p (requestOf (x .request)) (length (x .space)))) 0))
   where
-    go : (b : Bool) → cond b (encode (afterOf p (requestOf (x .request)))) (encode p) ≡ encode (cond b (afterOf p (requestOf (x .request))) p)
+    go : (b : Bool) → cond b (encode (afterOf p (requestOf (x .request)))) (encode p)
+        ≡ encode (cond b (afterOf p (requestOf (x .request))) p)
     go true = refl
     go false = refl
 
-valid-after : (p : Parts) (r : Option Request) (n : ℕ) → Valid p → ProperOption r → eqb (firstRow (requestRows p r n)) 0 ≡ true → Valid (afterOf p r)
+valid-after : (p : Parts) (r : Option Request) (n : ℕ) → Valid p → ProperOption r → eqb (firstRow (requestRows p r n)) 0
+    ≡ true → Valid (afterOf p r)
 unfolding requestRows afterOf maybe
 valid-after p none n v q e = v
 valid-after p (some r) n v q e = after-valid p r n v q (eqb-true _ _ e)
@@ -196,7 +213,8 @@ pub valid-left : (x : Call) (p : Parts) → Valid p → Valid (ruleLeaves x p)
 unfolding ruleLeaves ruleOutcome
 valid-left x p v = go (eqb (firstRow (requestRows p (requestOf (x .request)) (length (x .space)))) 0) refl
   where
-    go : (b : Bool) → eqb (firstRow (requestRows p (requestOf (x .request)) (length (x .space)))) 0 ≡ b → Valid (cond b (afterOf p (requestOf (x .request))) p)
+    go : (b : Bool) → eqb (firstRow (requestRows p (requestOf (x .request)) (length (x .space)))) 0 ≡ b
+        → Valid (cond b (afterOf p (requestOf (x .request))) p)
     go true e = valid-after p (requestOf (x .request)) (length (x .space)) v (request-proper (x .request)) e
     go false e = v
 

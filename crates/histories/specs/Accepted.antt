@@ -1,10 +1,8 @@
 -- The accepted writes and cuts of a history: from the requests and the outcome numbers alone, with no container.
-use Prim.Native.Nat.{ℕ, _-_, min}
+use Prim.Native.Nat.{ℕ}
 use mathlib.Core.Bool.{cond}
 use mathlib.Core.List.{List, [], _∷_, _++_}
-use mathlib.Core.Option.{Option, none, some}
-use lib.ListN.{length, getD}
-use lib.Dec.{eqb, leb}
+use lib.Dec.{eqb}
 use Rattle.rules.specs.Requests.{requestOf}
 use Rattle.histories.specs.Runs.{Call, Heard}
 use Rattle.rules.specs.Changes.{Change, changesOf, sizeAfter}

@@ -6,10 +6,11 @@ use mathlib.Core.List.{List}
 use lib.ListN.{length, getD}
 use Rattle.format.specs.Container.{wellFormed}
 use Rattle.format.specs.Layout.{dataOf, leasesOf}
-use Rattle.format.specs.Parts.{Parts, encode}
+use Rattle.format.specs.Parts.{Parts, encode, fresh}
 use Rattle.histories.specs.Runs.{Call, hears, leaves, ruleHears, ruleLeaves, answers, final, isLease, isData}
 use Rattle.histories.specs.Runs.{beside, noRoom, Never, Woven}
 use Rattle.rules.specs.Changes.{Change, sizeAfter, byteAfter}
+use Rattle.rules.specs.Outcomes.{createOutcome, createdContainer}
 use Rattle.histories.specs.Accepted.{accepted}
 
 -- Two histories on the same container bytes: beside each read and test-and-write the same is heard in both, beside each
@@ -34,6 +35,12 @@ pub record Told (os : List Change) (d : List ℕ) : Type 0 where
 
 -- Demand 3 of container bytes c with parts p.
 pub record Demand3 (c : List ℕ) (p : Parts) : Type 0 where
-  pub woven : (h k : List Call) → Woven h k → Never noRoom (answers hears leaves h c) → Never noRoom (answers hears leaves k c) → Alike h k c
+  pub woven : (h k : List Call) → Woven h k → Never noRoom (answers hears leaves h c)
+      → Never noRoom (answers hears leaves k c) → Alike h k c
   pub rules : (h : List Call) → ByRules h c p
   pub told : (h : List Call) → Told (accepted h (answers hears leaves h c) 0) (dataOf (final leaves h c))
+
+-- Demand 3 of every container that create has just made with outcome 0, at any allowed buffer length.
+pub record Histories (b node enabler : List ℕ) : Type 0 where
+  pub fresh-made : createOutcome b node enabler ≡ 0 →
+      Demand3 (createdContainer b node enabler) (fresh (length b) node enabler)

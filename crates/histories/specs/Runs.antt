@@ -13,7 +13,8 @@ use Rattle.rules.specs.Outcomes.{requestRows, replies, answerTo, afterOf, reply
 use Rattle.rules.specs.Outcomes.{replyAfter}
 use Rattle.rules.specs.declared.Answer.{Answer}
 
--- A call: any bytes as request, with its reply space. What is heard of it: the answer record and the reply space afterwards.
+-- A call: any bytes as request, with its reply space. What is heard of it: the answer record and the reply space
+-- afterwards.
 pub record Call : Type 0 where
   pub request : List ℕ
   pub space : List ℕ
@@ -76,7 +77,8 @@ abbrev pub Never : {A : Type 0} → (A → Bool) → List A → Type 0
 Never bad [] = Unit {0}
 Never bad (a ∷ ys) = (bad a ≡ false) × Never bad ys
 
--- The same reads and test-and-writes in the same order, the same lease requests in the same order, woven in any two ways.
+-- The same reads and test-and-writes in the same order, the same lease requests in the same order, woven in any two
+-- ways.
 pub record Woven (h k : List Call) : Type 0 where
   pub data-calls : only isData h ≡ only isData k
   pub lease-calls : only isLease h ≡ only isLease k
