@@ -377,7 +377,7 @@ holdsAt p b q d =
 
 -- The test as the code has read it: x, its place r, its piece s and its specimen u.
 pub read-holds : (b : ℕ) {p : ℕ} {q d s u : List ℕ} {x : TestEntry} {r : Resolved} → x ≡ testAt p q
-    → Reading p entrySize q d (x .entry) r → s ≡ take (x .entry .count) (drop (r .position) d)
+    → Reading p testSize q d (x .entry) r → s ≡ take (x .entry .count) (drop (r .position) d)
     → u ≡ bodyOf (bodyAt b (x .specimen)) q → decides (x .opcode) (order s u) ≡ holdsAt p b q d
 read-holds b {p} {q} e E f g =
     let m : b + entrySpecimen p q - b ≡ entrySpecimen p q = omega arith in

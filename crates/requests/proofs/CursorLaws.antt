@@ -77,8 +77,10 @@ unfolding entryCount
 count-below p q h = numberAt-below 4 (p + 4) q h
 
 -- ---- an entry, as the code has read it
-pub entry-made : (p stride : ℕ) (q : List ℕ) (z : ℤ) (n : ℕ) → SFits w32 z → z ≡ signed (numberAt 4 p q) → n ≡ numberAt 4 (p + 4) q
-    → _≡_ {A = Entry} (record { offset = toZ w32 (ofZ w32 z); count = n; next = record { at = p + stride } }) (entryAt p stride q)
+pub entry-made : (p stride : ℕ) (q : List ℕ) (z : ℤ) (n : ℕ) → SFits w32 z → z ≡ signed (numberAt 4 p q) → n
+    ≡ numberAt 4 (p + 4) q
+    → _≡_ {A = Entry} (record { offset = toZ w32 (ofZ w32 z); count = n; next = record { at = p + stride } })
+    (entryAt p stride q)
 unfolding entryOffset entryCount
 entry-made p stride q z n f e k = rw (toZ-ofZ w32 z f, e, k)
 

@@ -225,8 +225,16 @@ header-is q p x k e = rw e (rw k (record { tests = refl; writes = refl; flag = r
 -- The parts where they stand by the rules.
 abbrev placedAt : List ℕ → Form
 placedAt q =
-    partedAs (record { tests = testCount q; writes = writeCount q; flag = cutFlag q; new = newLength q; next = record { at = secretAt } })
-    (bodyAt secretAt secretSize) (record { at = writesAt q }) (record { at = specimensAt q }) (record { at = newDataAt q })
+    partedAs (record {
+      tests = testCount q;
+      writes = writeCount q;
+      flag = cutFlag q;
+      new = newLength q;
+      next =
+          record { at = secretAt };
+    })
+    (bodyAt secretAt secretSize) (record { at = writesAt q }) (record { at = specimensAt q })
+    (record { at = newDataAt q })
 
 asked-placed : (q : List ℕ) → asked q (placedAt q) ≡ some (testWriteOf q)
 unfolding testWriteOf
@@ -276,16 +284,32 @@ module _ {q : List ℕ} {x : Header} {e : Body} {t : TestsPassed} {w : WritesPas
   pub entries-at : t .good ≡ allFrom (testEntryOk q) testSize (testCount q) testsAt
   entries-at = ap (λ (y : TestsPassed). y .good) tests-at
 
-  placed-is : (b : Body) → b ≡ bodyAt (w .next .at) (t .length) → partedAs x e (t .next) (w .next) (b .next) ≡ placedAt q
+  placed-is : (b : Body) → b ≡ bodyAt (w .next .at) (t .length) → partedAs x e (t .next) (w .next) (b .next)
+      ≡ placedAt q
   unfolding writesAt specimensAt newDataAt
-  placed-is b k = rw (k, enabler-at, tests-at, writes-at, F .header .tests, F .header .writes, F .header .flag, F .header .new)
+  placed-is b k = rw (
+    k,
+    enabler-at,
+    tests-at,
+    writes-at,
+    F .header .tests,
+    F .header .writes,
+    F .header .flag,
+    F .header .new,
+  )
 
-  pub taken : (b : Body) (r : Form) → b ≡ bodyAt (w .next .at) (t .length) → r ≡ partedAs x e (t .next) (w .next) (b .next)
+  pub taken : (b : Body) (r : Form) → b ≡ bodyAt (w .next .at) (t .length) → r
+      ≡ partedAs x e (t .next) (w .next) (b .next)
       → TableFacts q → length q ≤ requestLimit → Takes q (byKind 1 q) r
   unfolding byKind isSome
   taken b r k e f s =
       rw (e ∙ placed-is b k)
-      (record { number = rw (table-true q f); asks = rw (table-true q f) (asked-placed q); inside = inside-placed q f s })
+      (record {
+        number = rw (table-true q f);
+        asks = rw (table-true q f) (asked-placed q);
+        inside =
+            inside-placed q f s;
+      })
 
 -- ---- a read
 pub record ReadFacts (q : List ℕ) : Type 0 where
@@ -325,7 +349,8 @@ pub read-header-is : (q : List ℕ) (p : ℕ) (x : ReadHeader) → p ≡ 1 → x
 unfolding readCount
 read-header-is q p x k e = rw e (rw k (record { reads = refl; first = refl; second = refl; next = refl }))
 
-pub read-taken : (q : List ℕ) (x : ReadHeader) (a n : ℕ) → ReadHeaderIs q x → ReadFacts q → a ≡ x .next .at → n ≡ x .reads
+pub read-taken : (q : List ℕ) (x : ReadHeader) (a n : ℕ) → ReadHeaderIs q x → ReadFacts q → a ≡ x .next .at → n
+    ≡ x .reads
     → Takes q (byKind 5 q) (ReadForm (record { first = record { at = a }; count = n; stride = entrySize }))
 unfolding byKind isSome
 read-taken q x a n h f ea en =
@@ -377,7 +402,12 @@ pub renew-taken : (q : List ℕ) (b : Body) (x : ℕ) → length q ≡ 1 + secre
 unfolding byKind renewOk isSome
 renew-taken q b x l e f =
     rw (e, f)
-    (record { number = rw (eq-eqb _ _ l); asks = rw (eq-eqb _ _ l); inside = record { size = refl; fits = omega arith } })
+    (record {
+      number = rw (eq-eqb _ _ l);
+      asks = rw (eq-eqb _ _ l);
+      inside =
+          record { size = refl; fits = omega arith };
+    })
 
 pub cancel-length : (q : List ℕ) → (length q ≡ 1 + secretSize → ⊥) → Takes q (byKind 4 q) Broken
 unfolding byKind cancelOk

@@ -3,7 +3,7 @@ use Prim.Native.Nat.{ℕ, _+_, _-_}
 use mathlib.Core.List.{List}
 use lib.ListN.{getD, take, drop}
 use Rattle.octets.specs.Numbers.{numberAt}
-use Rattle.rules.specs.Requests.{entrySize, paddingAt, testSize, entryOffset, entryCount, entryOpcode, entrySpecimen}
+use Rattle.rules.specs.Requests.{paddingAt, testSize, entryOffset, entryCount, entryOpcode, entrySpecimen}
 use Rattle.requests.specs.declared.cursors.Byte.{Byte}
 use Rattle.requests.specs.declared.cursors.Number.{Number}
 use Rattle.requests.specs.declared.cursors.Body.{Body}
@@ -30,12 +30,19 @@ entryAt p stride q = record { offset = entryOffset p q; count = entryCount p q; 
 
 abbrev pub testAt : ℕ → List ℕ → TestEntry
 testAt p q = record {
-  entry = entryAt p entrySize q;
+  entry = entryAt p testSize q;
   opcode = entryOpcode p q;
   padding = getD q (p + paddingAt) 0;
   specimen = entrySpecimen p q;
   next = record { at = p + testSize };
 }
+
+-- How much follows the kind: of a test-and-write up to its enabler, of a read up to its table.
+abbrev pub headerSize : ℕ
+headerSize = 7
+
+abbrev pub readHeaderSize : ℕ
+readHeaderSize = 3
 
 abbrev pub headerAt : ℕ → List ℕ → Header
 headerAt p q = record {
@@ -43,7 +50,7 @@ headerAt p q = record {
   writes = getD q (p + 1) 0;
   flag = getD q (p + 2) 0;
   new = numberAt 4 (p + 3) q;
-  next = record { at = p + 7 };
+  next = record { at = p + headerSize };
 }
 
 abbrev pub readHeaderAt : ℕ → List ℕ → ReadHeader
@@ -51,5 +58,5 @@ readHeaderAt p q = record {
   reads = getD q p 0;
   first = getD q (p + 1) 0;
   second = getD q (p + 2) 0;
-  next = record { at = p + 3 };
+  next = record { at = p + readHeaderSize };
 }

@@ -1,4 +1,5 @@
--- What taking a request apart answers: the request that each form stands for, and that what it names lies inside the bytes.
+-- What taking a request apart answers: the request that each form stands for, and that what it names lies inside the
+-- bytes.
 use Prim.Native.Nat.{ℕ, _+_, _*_, _≤_}
 use mathlib.Core.Path.{_≡_}
 use mathlib.Core.Bool.{Bool, true, cond, not, _&&_}
@@ -22,7 +23,8 @@ use Rattle.requests.specs.declared.forms.Parted.{Parted}
 use Rattle.requests.specs.declared.forms.TestsPassed.{TestsPassed}
 use Rattle.requests.specs.declared.forms.WritesPassed.{WritesPassed}
 use Rattle.requests.specs.declared.forms.Form.{Form}
-use Rattle.requests.specs.declared.forms.Form.the-variants.{Broken, TestWrite, Add, Renew, Cancel, Read as ReadForm}
+use Rattle.requests.specs.declared.forms.Form.the-variants.{Broken, TestWrite, Add, Renew, Cancel}
+use Rattle.requests.specs.declared.forms.Form.the-variants.{Read as ReadForm}
 
 -- ---- what each form stands for
 -- The outcome's number for each case: 3 for a request that breaks its format, 0 for every other.

@@ -1,11 +1,11 @@
-// A cursor over a request, handed on by value: each method takes it and returns the next one beside what it read. Nothing
-// else reads a request's bytes.
+// A cursor over a request, handed on by value: each method takes it and returns the next one beside what it read.
+// Nothing else reads a request's bytes.
 ghost use mathlib.Core.Path.{_≡_};
 ghost use Prim.Native.Nat.{_+_, _≤_};
 ghost use lib.ListN.{length};
 ghost use Rattle.rules.specs.Requests.{entrySize, testSize};
 ghost use Rattle.requests.specs.Cursors.{byteAt, numberIn, bodyAt, bodyOf, entryAt, testAt, headerAt};
-ghost use Rattle.requests.specs.Cursors.{readHeaderAt};
+ghost use Rattle.requests.specs.Cursors.{readHeaderAt, headerSize, readHeaderSize};
 
 // An entry of a table: offset 4, length 4.
 pub const ENTRY_SIZE: usize = 8;
@@ -15,7 +15,12 @@ const PADDING_AT: usize = ENTRY_SIZE + 1;
 
 const SPECIMEN_AT: usize = PADDING_AT + 1;
 
-pub const TEST_SIZE: usize = SPECIMEN_AT + 2;
+pub(crate) const TEST_SIZE: usize = SPECIMEN_AT + 2;
+
+// What follows the kind: of a test-and-write up to its enabler, of a read up to its table.
+pub(crate) const HEADER_SIZE: usize = 7;
+
+pub(crate) const READ_HEADER_SIZE: usize = 3;
 
 pub struct Cursor {
     pub at: usize,
@@ -148,20 +153,21 @@ impl Cursor {
         ensures { λ r. ⌜ r ≡ testAt (self .at) (now (q .entry)) ⌝ }
     {
         let at = self.at;
-        let entry = self.entry(q, ENTRY_SIZE);
+        let entry = self.entry(q, TEST_SIZE);
+        let next = entry.next;
         let specimen = octets::numbers::u16_at(q, at + SPECIMEN_AT) as usize;
         TestEntry {
             entry: entry,
             opcode: q[at + ENTRY_SIZE],
             padding: q[at + PADDING_AT],
             specimen: specimen,
-            next: Cursor { at: at + TEST_SIZE },
+            next: next,
         }
     }
 
     // T, V, cut flag, new length 4.
-    pub fn header(self, q: &[u8]) -> Header
-        requires { ⌜ self .at + 7 ≤ length (now q) ⌝ }
+    pub(crate) fn header(self, q: &[u8]) -> Header
+        requires { ⌜ self .at + headerSize ≤ length (now q) ⌝ }
         ensures { λ r. ⌜ r ≡ headerAt (self .at) (now (q .entry)) ⌝ }
     {
         let at = self.at;
@@ -174,13 +180,15 @@ impl Cursor {
             writes: writes,
             flag: flag,
             new: new,
-            next: Cursor { at: at + 7 },
+            next: Cursor {
+                at: at + HEADER_SIZE,
+            },
         }
     }
 
     // R, two bytes.
-    pub fn read_header(self, q: &[u8]) -> ReadHeader
-        requires { ⌜ self .at + 3 ≤ length (now q) ⌝ }
+    pub(crate) fn read_header(self, q: &[u8]) -> ReadHeader
+        requires { ⌜ self .at + readHeaderSize ≤ length (now q) ⌝ }
         ensures { λ r. ⌜ r ≡ readHeaderAt (self .at) (now (q .entry)) ⌝ }
     {
         let at = self.at;
@@ -189,7 +197,9 @@ impl Cursor {
             reads: reads,
             first: q[at + 1],
             second: q[at + 2],
-            next: Cursor { at: at + 3 },
+            next: Cursor {
+                at: at + READ_HEADER_SIZE,
+            },
         }
     }
 }

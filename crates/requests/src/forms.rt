@@ -7,20 +7,22 @@ ghost use Rattle.requests.specs.Forms.{entryOk, testsPassed, writesPasse
 use crate::cursors::Body;
 use crate::cursors::Cursor;
 use crate::cursors::ENTRY_SIZE;
+use crate::cursors::HEADER_SIZE;
 use crate::cursors::Header;
+use crate::cursors::READ_HEADER_SIZE;
 use crate::cursors::TEST_SIZE;
 use format::layout::RECORD_SIZE;
 use format::layout::SECRET_SIZE;
 
 // The longest request, and the longest table.
-pub const REQUEST_LIMIT: usize = 65536;
+const REQUEST_LIMIT: usize = 65536;
 
-pub const ENTRY_LIMIT: usize = 16;
+const ENTRY_LIMIT: usize = 16;
 
 // Where the tables begin: of a test-and-write, of a read.
-const TESTS_AT: usize = 8 + SECRET_SIZE;
+const TESTS_AT: usize = 1 + HEADER_SIZE + SECRET_SIZE;
 
-const READS_AT: usize = 4;
+const READS_AT: usize = 1 + READ_HEADER_SIZE;
 
 // A table: its first entry, how many there are, and how far apart they stand.
 pub struct Table {
@@ -54,7 +56,8 @@ pub enum Form {
     Read(Table),
 }
 
-// What passing over a table of tests finds: whether every entry is good, the specimens' lengths added up, the place after.
+// What passing over a table of tests finds: whether every entry is good, the specimens' lengths added up, the place
+// after.
 pub(crate) struct TestsPassed {
     pub(crate) good: bool,
     pub(crate) length: usize,

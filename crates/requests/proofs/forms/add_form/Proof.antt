@@ -12,7 +12,8 @@ use Rattle.requests.proofs.forms.add_form.Statement.{statement}
 use Rattle.requests.proofs.forms.add_form.Tie as tie
 
 owner : (c : tie.After-number) → c .number .result .value ≡ numberAt 4 1 (c .before .before .before .args .q .now)
-owner c = ap (λ (x : Number). x .value) (c .number .ensures) ∙ ap (λ (p : ℕ). numberAt 4 p (c .before .before .before .args .q .now)) (c .before .before .before .pre)
+owner c = ap (λ (x : Number). x .value) (c .number .ensures)
+    ∙ ap (λ (p : ℕ). numberAt 4 p (c .before .before .before .args .q .now)) (c .before .before .before .pre)
 
 add-if1 : tie.Need-add-if1
 add-if1 c = search needs
@@ -31,7 +32,9 @@ body-requires c κs = search needs
 
 returns-3 : tie.Need-returns-3
 returns-3 c =
-    add-taken _ _ (c .before .before .before .before .if1 .left) (λ z. c .before .if2 .left (owner (c .before .before .before) ∙ z)) (c .body .ensures ∙ ap (λ (p : ℕ). bodyAt p recordSize) (c .before .before .before .before .before .before .pre))
+    add-taken _ _ (c .before .before .before .before .if1 .left)
+    (λ z. c .before .if2 .left (owner (c .before .before .before) ∙ z)) (c .body .ensures
+    ∙ ap (λ (p : ℕ). bodyAt p recordSize) (c .before .before .before .before .before .before .pre))
 
 pub add-form-spec : {M : Type 1} → statement M
 add-form-spec =

@@ -18,7 +18,8 @@ body-requires : tie.Need-body-requires
 body-requires c κs = search needs
 
 returns-2 : tie.Need-returns-2
-returns-2 c = cancel-taken _ _ (c .before .if1 .left) (c .body .ensures ∙ ap (λ (p : ℕ). bodyAt p secretSize) (c .before .before .before .pre))
+returns-2 c = cancel-taken _ _ (c .before .if1 .left) (c .body .ensures
+    ∙ ap (λ (p : ℕ). bodyAt p secretSize) (c .before .before .before .pre))
 
 pub cancel-form-spec : {M : Type 1} → statement M
 cancel-form-spec = tie.close (tie.spec add-if1 returns body-requires returns-2)

@@ -12,9 +12,11 @@ use Rattle.requests.proofs.forms.form_of.Statement.{statement}
 use Rattle.requests.proofs.forms.form_of.Tie as tie
 
 first : (c : tie.After-byte) → c .byte .result ≡ byteAt 0 (c .before .before .before .before .before .args .q .now)
-first c = c .byte .ensures ∙ ap (λ (p : ℕ). byteAt p (c .before .before .before .before .before .args .q .now)) (c .before .start .ensures)
+first c = c .byte .ensures ∙ ap (λ (p : ℕ). byteAt p (c .before .before .before .before .before .args .q .now))
+    (c .before .start .ensures)
 
-kind : (c : tie.After-byte) → c .byte .result .value ≡ getD (c .before .before .before .before .before .args .q .now) 0 0
+kind : (c : tie.After-byte) → c .byte .result .value
+    ≡ getD (c .before .before .before .before .before .args .q .now) 0 0
 kind c = ap (λ (b : Byte). b .value) (first c)
 
 behind : (c : tie.After-byte) → c .byte .result .next .at ≡ 1
@@ -36,36 +38,44 @@ test-write-form-requires : tie.Need-test-write-form-requires
 test-write-form-requires c κs = (behind (c .before .before), c .before .before .before .before .if2 .left)
 
 returns-3 : tie.Need-returns-3
-returns-3 c = by-kind _ 1 _ (c .before .before .before .before .before .if2 .left) (sym (c .before .if3 .taken) ∙ kind (c .before .before .before)) (c .test-write-form .ensures)
+returns-3 c = by-kind _ 1 _ (c .before .before .before .before .before .if2 .left) (sym (c .before .if3 .taken)
+    ∙ kind (c .before .before .before)) (c .test-write-form .ensures)
 
 add-form-requires : tie.Need-add-form-requires
 add-form-requires c κs = behind (c .before .before .before)
 
 returns-4 : tie.Need-returns-4
-returns-4 c = by-kind _ 2 _ (c .before .before .before .before .before .before .if2 .left) (sym (c .before .if4 .taken) ∙ kind (c .before .before .before .before)) (c .add-form .ensures)
+returns-4 c = by-kind _ 2 _ (c .before .before .before .before .before .before .if2 .left) (sym (c .before .if4 .taken)
+    ∙ kind (c .before .before .before .before)) (c .add-form .ensures)
 
 renew-form-requires : tie.Need-renew-form-requires
 renew-form-requires c κs = behind (c .before .before .before .before)
 
 returns-5 : tie.Need-returns-5
-returns-5 c = by-kind _ 3 _ (c .before .before .before .before .before .before .before .if2 .left) (sym (c .before .if5 .taken) ∙ kind (c .before .before .before .before .before)) (c .renew-form .ensures)
+returns-5 c = by-kind _ 3 _ (c .before .before .before .before .before .before .before .if2 .left)
+    (sym (c .before .if5 .taken) ∙ kind (c .before .before .before .before .before)) (c .renew-form .ensures)
 
 cancel-form-requires : tie.Need-cancel-form-requires
 cancel-form-requires c κs = behind (c .before .before .before .before .before)
 
 returns-6 : tie.Need-returns-6
-returns-6 c = by-kind _ 4 _ (c .before .before .before .before .before .before .before .before .if2 .left) (sym (c .before .if6 .taken) ∙ kind (c .before .before .before .before .before .before)) (c .cancel-form .ensures)
+returns-6 c = by-kind _ 4 _ (c .before .before .before .before .before .before .before .before .if2 .left)
+    (sym (c .before .if6 .taken) ∙ kind (c .before .before .before .before .before .before)) (c .cancel-form .ensures)
 
 read-form-requires : tie.Need-read-form-requires
 read-form-requires c κs = behind (c .before .before .before .before .before .before)
 
 returns-7 : tie.Need-returns-7
-returns-7 c = by-kind _ 5 _ (c .before .before .before .before .before .before .before .before .before .if2 .left) (sym (c .before .if7 .taken) ∙ kind (c .before .before .before .before .before .before .before)) (c .read-form .ensures)
+returns-7 c = by-kind _ 5 _ (c .before .before .before .before .before .before .before .before .before .if2 .left)
+    (sym (c .before .if7 .taken) ∙ kind (c .before .before .before .before .before .before .before))
+    (c .read-form .ensures)
 
 returns-8 : tie.Need-returns-8
 returns-8 c =
-    by-kind _ _ _ (c .before .before .before .before .before .before .before .before .if2 .left) (kind (c .before .before .before .before .before .before))
-    (unknown-kind _ _ (c .before .before .before .before .if3 .left) (c .before .before .before .if4 .left) (c .before .before .if5 .left) (c .before .if6 .left) (c .if7 .left))
+    by-kind _ _ _ (c .before .before .before .before .before .before .before .before .if2 .left)
+    (kind (c .before .before .before .before .before .before))
+    (unknown-kind _ _ (c .before .before .before .before .if3 .left) (c .before .before .before .if4 .left)
+    (c .before .before .if5 .left) (c .before .if6 .left) (c .if7 .left))
 
 pub form-of-spec : {M : Type 1} → statement M
 form-of-spec =

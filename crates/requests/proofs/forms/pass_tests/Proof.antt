@@ -24,7 +24,8 @@ loop-holds : tie.Need-loop-holds Inv-loop μ-loop
 loop-holds c = (testing-start _ _ _, (c .before .pre .0, c .before .pre .1))
 
 test-requires : tie.Need-test-requires Inv-loop μ-loop
-test-requires c κs = let l = c .before .loop in omega (arith, l .inv .0 .reaches, times-next testSize (l .left) (l .cursor .at) (c .loop-test .taken))
+test-requires c κs = let l = c .before .loop in
+    omega (arith, l .inv .0 .reaches, times-next testSize (l .left) (l .cursor .at) (c .loop-test .taken))
 
 entry-ok-requires : tie.Need-entry-ok-requires Inv-loop μ-loop
 entry-ok-requires c κs = search needs
@@ -36,7 +37,10 @@ add-length : tie.Need-add-length Inv-loop μ-loop
 add-length c =
     let l = c .before .before .before .before .before .loop in
     let q = c .before .before .before .before .before .before .before .args .q .now in
-    let s = specimens-most q (λ i. omega (arith, c .before .before .before .before .before .before .shared-slice-known .given i)) (c .before .before .before .before .before .before .before .args .n) (c .before .before .before .before .before .before .before .args .first .at) in
+    let s = specimens-most q
+    (λ i. omega (arith, c .before .before .before .before .before .before .shared-slice-known .given i))
+    (c .before .before .before .before .before .before .before .args .n)
+    (c .before .before .before .before .before .before .before .args .first .at) in
     let e = ap (λ (x : TestEntry). x .specimen) (c .before .before .before .test .ensures) in
     omega (arith, testing-bound (l .inv .0) (c .before .before .before .before .loop-test .taken), l .inv .1 .1)
 
@@ -54,9 +58,13 @@ loop-again c =
     let x = t .ensures in
     let o : entryOk (t .result .opcode) (t .result .padding) ≡ testEntryOk q (l .cursor .at) =
     rw x (test-entry-ok q (l .cursor .at)) in
-    let g = c .before .before .both .ensures ∙ ap (λ (b : Bool). l .good && b) (c .before .before .before .entry-ok .ensures ∙ o) in
-    let k : t .result .next .at ≡ l .cursor .at + testSize = ap (λ (y : TestEntry). y .next .at) x in
-    (rw k (testing-next (l .inv .0) (c .before .before .before .before .before .loop-test .taken) _ _ g (ap (λ (y : TestEntry). y .specimen) x)), l .inv .1)
+    let g = c .before .before .both .ensures
+    ∙ ap (λ (b : Bool). l .good && b) (c .before .before .before .entry-ok .ensures ∙ o) in
+    let k : t .result .next .at ≡ l .cursor .at + testSize = ap (λ (y : TestEntry). y .next .at) x in (
+      rw k (testing-next (l .inv .0) (c .before .before .before .before .before .loop-test .taken) _ _ g
+          (ap (λ (y : TestEntry). y .specimen) x)),
+      l .inv .1,
+    )
 
 returns : tie.Need-returns Inv-loop μ-loop
 returns c = testing-end (c .before .loop .inv .0) (c .loop-test .left)

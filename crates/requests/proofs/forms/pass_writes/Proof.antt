@@ -21,14 +21,25 @@ loop-holds : tie.Need-loop-holds Inv-loop μ-loop
 loop-holds c = (adding-start _ _ _, (c .before .pre .0, c .before .pre .1))
 
 entry-requires : tie.Need-entry-requires Inv-loop μ-loop
-entry-requires c κs = let l = c .before .loop in (omega arith, omega (arith, l .inv .0 .reaches, times-next entrySize (l .left) (l .cursor .at) (c .loop-test .taken)))
+entry-requires c κs = let l = c .before .loop in (
+  omega arith,
+  omega (
+    arith,
+    l .inv .0 .reaches,
+    times-next entrySize (l .left) (l .cursor .at)
+        (c .loop-test .taken),
+  ),
+)
 
 add-length : tie.Need-add-length Inv-loop μ-loop
 add-length c =
     let l = c .before .before .before .loop in
     let q = c .before .before .before .before .before .args .q .now in
-    let s = bodies-most q (λ i. omega (arith, c .before .before .before .before .shared-slice-known .given i)) (c .before .before .before .before .before .args .n) (c .before .before .before .before .before .args .first .at) in
-    let t = adding-next (l .inv .0) (c .before .before .loop-test .taken) (c .before .entry .result .count) (ap (λ (x : Entry). x .count) (c .before .entry .ensures)) in
+    let s = bodies-most q (λ i. omega (arith, c .before .before .before .before .shared-slice-known .given i))
+    (c .before .before .before .before .before .args .n)
+    (c .before .before .before .before .before .args .first .at) in
+    let t = adding-next (l .inv .0) (c .before .before .loop-test .taken) (c .before .entry .result .count)
+    (ap (λ (x : Entry). x .count) (c .before .entry .ensures)) in
     omega (arith, t .summed, l .inv .1 .1)
 
 sub-left : tie.Need-sub-left Inv-loop μ-loop
@@ -41,8 +52,11 @@ loop-again : tie.Need-loop-again Inv-loop μ-loop
 loop-again c =
     let l = c .before .before .before .before .loop in
     let x = c .before .before .entry .ensures in
-    let k : c .before .before .entry .result .next .at ≡ l .cursor .at + entrySize = ap (λ (y : Entry). y .next .at) x in
-    (rw k (adding-next (l .inv .0) (c .before .before .before .loop-test .taken) _ (ap (λ (y : Entry). y .count) x)), l .inv .1)
+    let k : c .before .before .entry .result .next .at
+    ≡ l .cursor .at + entrySize = ap (λ (y : Entry). y .next .at) x in (
+      rw k (adding-next (l .inv .0) (c .before .before .before .loop-test .taken) _ (ap (λ (y : Entry). y .count) x)),
+      l .inv .1,
+    )
 
 returns : tie.Need-returns Inv-loop μ-loop
 returns c = adding-end (c .before .loop .inv .0) (c .loop-test .left)

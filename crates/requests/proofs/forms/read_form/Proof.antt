@@ -7,7 +7,8 @@ use Rattle.requests.proofs.forms.read_form.Statement.{statement}
 use Rattle.requests.proofs.forms.read_form.Tie as tie
 
 header : (c : tie.After-read-header) → ReadHeaderIs (c .before .before .before .args .q .now) (c .read-header .result)
-header c = read-header-is _ (c .before .before .before .args .at .at) _ (c .before .before .before .pre) (c .read-header .ensures)
+header c = read-header-is _ (c .before .before .before .args .at .at) _ (c .before .before .before .pre)
+    (c .read-header .ensures)
 
 returns : tie.Need-returns
 returns c = no-read _ (λ h. omega arith)
@@ -31,12 +32,20 @@ add-if5 : tie.Need-add-if5
 add-if5 c = search needs
 
 returns-5 : tie.Need-returns-5
-returns-5 c = let x = header (c .before .before .before .before .before .before) in no-read _ (λ h. c .if5 .taken (omega arith))
+returns-5 c = let x = header (c .before .before .before .before .before .before) in
+    no-read _ (λ h. c .if5 .taken (omega arith))
 
 returns-6 : tie.Need-returns-6
 returns-6 c =
     let x = header (c .before .before .before .before .before .before .before) in
-    read-taken _ _ _ _ x (record { reads = omega arith; first = sym (x .first) ∙ c .before .before .before .before .if3 .left; second = sym (x .second) ∙ c .before .before .if4 .left; ends = omega arith }) (omega arith) (omega arith)
+    read-taken _ _ _ _ x (record {
+      reads = omega arith;
+      first = sym (x .first)
+          ∙ c .before .before .before .before .if3 .left;
+      second = sym (x .second) ∙ c .before .before .if4 .left;
+      ends =
+          omega arith;
+    }) (omega arith) (omega arith)
 
 pub read-form-spec : {M : Type 1} → statement M
 read-form-spec =

@@ -1,7 +1,5 @@
--- Each early return refutes one fact of a test-and-write; at the end all of them hold. The sums are small, so that nothing
--- wraps.
--- What each callee has told.
--- How large the two sums are.
+-- Each early return refutes one fact of a test-and-write; at the end all of them hold. The sums are small, so that
+-- nothing wraps.
 use mathlib.Core.Path.{_≡_, sym, ap, _∙_}
 use mathlib.Core.Bool.{false≢true}
 use native.Mathlib.Omega.{arith}
@@ -12,26 +10,37 @@ use Rattle.rules.specs.Requests.{testsAt, writesAt, testCount, writeCount, cutF
 use Rattle.requests.specs.declared.cursors.Body.{Body}
 use Rattle.requests.specs.declared.forms.TestsPassed.{TestsPassed}
 use Rattle.requests.specs.declared.forms.WritesPassed.{WritesPassed}
-use Rattle.requests.proofs.FormLaws.{HeaderIs, header-is, Found, no-table, table-places, specimens-most, bodies-most}
+use Rattle.requests.proofs.FormLaws.{HeaderIs, header-is, Found, no-table, table-places, specimens-most}
+use Rattle.requests.proofs.FormLaws.{bodies-most}
 use Rattle.requests.proofs.FormLaws.{tests-at, writes-at, specimens-at, ends-at, entries-at, taken}
 use borrow.Author.Needs.{needs}
 use Rattle.requests.proofs.forms.test_write_form.Statement.{statement}
 use Rattle.requests.proofs.forms.test_write_form.Tie as tie
 
 header : (c : tie.After-header) → HeaderIs (c .before .before .before .args .q .now) (c .header .result)
-header c = header-is _ (c .before .before .before .args .at .at) _ (c .before .before .before .pre .0) (c .header .ensures)
+header c = header-is _ (c .before .before .before .args .at .at) _ (c .before .before .before .pre .0)
+    (c .header .ensures)
 
-cut : (c : tie.After-cut-ok) → c .cut-ok .result ≡ cutOk (cutFlag (c .before .before .before .before .before .before .args .q .now)) (newLength (c .before .before .before .before .before .before .args .q .now))
+cut : (c : tie.After-cut-ok) → c .cut-ok .result
+    ≡ cutOk (cutFlag (c .before .before .before .before .before .before .args .q .now))
+    (newLength (c .before .before .before .before .before .before .args .q .now))
 cut c = c .cut-ok .ensures ∙ rw (header (c .before .before .before) .flag, header (c .before .before .before) .new)
 
 enabler-next : (c : tie.After-body) → c .body .result .next .at ≡ testsAt
-enabler-next c = ap (λ (b : Body). b .next .at) (c .body .ensures) ∙ rw (header (c .before .before .before .before .before .before) .next)
+enabler-next c = ap (λ (b : Body). b .next .at) (c .body .ensures)
+    ∙ rw (header (c .before .before .before .before .before .before) .next)
 
-tests-next : (c : tie.After-pass-tests) → c .pass-tests .result .next .at ≡ writesAt (c .before .before .before .before .before .before .before .before .before .before .args .q .now)
+tests-next : (c : tie.After-pass-tests) → c .pass-tests .result .next .at
+    ≡ writesAt (c .before .before .before .before .before .before .before .before .before .before .args .q .now)
 unfolding writesAt
-tests-next c = ap (λ (t : TestsPassed). t .next .at) (c .pass-tests .ensures) ∙ rw (enabler-next (c .before), header (c .before .before .before .before .before .before .before) .tests)
+tests-next c = ap (λ (t : TestsPassed). t .next .at) (c .pass-tests .ensures)
+    ∙ rw (enabler-next (c .before), header (c .before .before .before .before .before .before .before) .tests)
 
-found : (c : tie.After-pass-writes) → Found (c .before .before .before .before .before .before .before .before .before .before .before .before .before .args .q .now) (c .before .before .before .before .before .before .before .before .before .before .header .result) (c .before .before .before .before .body .result) (c .before .before .before .pass-tests .result) (c .pass-writes .result)
+found : (c : tie.After-pass-writes)
+    → Found (c .before .before .before .before .before .before .before .before .before .before .before .before .before
+    .args .q .now) (c .before .before .before .before .before .before .before .before .before .before .header .result)
+    (c .before .before .before .before .body .result) (c .before .before .before .pass-tests .result)
+    (c .pass-writes .result)
 found c = record {
   header = header (c .before .before .before .before .before .before .before .before .before .before);
   enabler = c .before .before .before .before .body .ensures;
@@ -39,16 +48,27 @@ found c = record {
   writes = c .pass-writes .ensures;
 }
 
-octets : (c : tie.After-pass-writes) → Octets (c .before .before .before .before .before .before .before .before .before .before .before .before .before .args .q .now)
-octets c = λ i. omega (arith, c .before .before .before .before .before .before .before .before .before .before .before .before .shared-slice-known .given i)
+octets : (c : tie.After-pass-writes)
+    → Octets (c .before .before .before .before .before .before .before .before .before .before .before .before .before
+    .args .q .now)
+octets c =
+    λ i. omega (
+      arith,
+      c .before .before .before .before .before .before .before .before .before .before .before .before
+          .shared-slice-known .given i,
+    )
 
-small : (c : tie.After-pass-writes) → (c .before .before .before .pass-tests .result .length ≤ 65536 * 16) × (c .pass-writes .result .length ≤ 4294967296 * 16)
+small : (c : tie.After-pass-writes) → (c .before .before .before .pass-tests .result .length ≤ 65536 * 16)
+    × (c .pass-writes .result .length ≤ 4294967296 * 16)
 small c =
-    let q = c .before .before .before .before .before .before .before .before .before .before .before .before .before .args .q .now in
+    let q = c .before .before .before .before .before .before .before .before .before .before .before .before .before
+    .args .q .now in
     let x = header (c .before .before .before .before .before .before .before .before .before .before) in
     let t = ap (λ (y : TestsPassed). y .length) (tests-at (found c)) in
-    let w = ap (λ (y : WritesPassed). y .length) (writes-at (found c)) in
-    (omega (arith, specimens-most q (octets c) (testCount q) testsAt), omega (arith, bodies-most q (octets c) (writeCount q) (writesAt q)))
+    let w = ap (λ (y : WritesPassed). y .length) (writes-at (found c)) in (
+      omega (arith, specimens-most q (octets c) (testCount q) testsAt),
+      omega (arith, bodies-most q (octets c) (writeCount q) (writesAt q)),
+    )
 
 returns : tie.Need-returns
 returns c =
@@ -94,27 +114,49 @@ body-requires : tie.Need-body-requires
 body-requires c κs = let x = header (c .before .before .before .before .before) in omega arith
 
 pass-tests-requires : tie.Need-pass-tests-requires
-pass-tests-requires c κs = let x = header (c .before .before .before .before .before .before) in (omega (arith, enabler-next c), omega arith)
+pass-tests-requires c κs = let x = header (c .before .before .before .before .before .before) in
+    (omega (arith, enabler-next c), omega arith)
 
 returns-6 : tie.Need-returns-6
 returns-6 c =
-    let e = rw (enabler-next (c .before .before .before), header (c .before .before .before .before .before .before .before .before .before) .tests) at (ap (λ (t : TestsPassed). t .good) (c .before .before .pass-tests .ensures)) in
+    let e = rw (
+      enabler-next (c .before .before .before),
+      header (c .before .before .before .before .before .before .before .before .before) .tests,
+    ) at
+    (ap (λ (t : TestsPassed). t .good) (c .before .before .pass-tests .ensures)) in
     no-table _ (λ h. false≢true (sym (not-true _ (c .if6 .taken)) ∙ e ∙ h .entries))
 
 pass-writes-requires : tie.Need-pass-writes-requires
 pass-writes-requires c κs =
     let x = header (c .before .before .before .before .before .before .before .before .before) in
-    let m = table-places (c .before .before .before .before .before .before .before .before .before .before .before .before .args .q .now) in
+    let m = table-places
+    (c .before .before .before .before .before .before .before .before .before .before .before .before .args .q
+    .now) in
     (omega (arith, tests-next (c .before .before)), omega arith)
 
 add-if7 : tie.Need-add-if7
-add-if7 c = let m = table-places (c .before .before .before .before .before .before .before .before .before .before .before .before .before .before .before .before .args .q .now) in let x = header (c .before .before .before .before .before .before .before .before .before .before .before .before .before) in omega (arith, specimens-at (found (c .before .before .before)), small (c .before .before .before))
+add-if7 c = let m =
+    table-places
+    (c .before .before .before .before .before .before .before .before .before .before .before .before .before .before
+    .before .before .args .q .now) in let x =
+    header (c .before .before .before .before .before .before .before .before .before .before .before .before .before)
+    in omega (arith, specimens-at (found (c .before .before .before)), small (c .before .before .before))
 
 add-if7-2 : tie.Need-add-if7-2
-add-if7-2 c = let m = table-places (c .before .before .before .before .before .before .before .before .before .before .before .before .before .before .before .before .before .args .q .now) in let x = header (c .before .before .before .before .before .before .before .before .before .before .before .before .before .before) in omega (arith, specimens-at (found (c .before .before .before .before)), small (c .before .before .before .before))
+add-if7-2 c = let m =
+    table-places
+    (c .before .before .before .before .before .before .before .before .before .before .before .before .before .before
+    .before .before .before .args .q .now) in let x =
+    header (c .before .before .before .before .before .before .before .before .before .before .before .before .before
+    .before) in omega (
+      arith,
+      specimens-at (found (c .before .before .before .before)),
+      small (c .before .before .before .before),
+    )
 
 returns-7 : tie.Need-returns-7
-returns-7 c = no-table _ (λ h. c .if7 .taken (sym (ends-at (found (c .before .before .before .before .before))) ∙ h .ends))
+returns-7 c = no-table _ (λ h. c .if7 .taken (sym (ends-at (found (c .before .before .before .before .before)))
+    ∙ h .ends))
 
 body-requires-2 : tie.Need-body-requires-2
 body-requires-2 c κs = search needs
@@ -125,16 +167,35 @@ found-requires c κs = search needs
 returns-8 : tie.Need-returns-8
 returns-8 c =
     let F = found (c .before .before .before .before .before .before .before .before) in
-    let x = header (c .before .before .before .before .before .before .before .before .before .before .before .before .before .before .before .before .before .before) in
+    let x = header
+    (c .before .before .before .before .before .before .before .before .before .before .before .before .before
+    .before .before .before .before .before) in
     taken F _ _ (c .before .before .body2 .ensures) (c .found .ensures)
     (record {
-      tests = omega (arith, c .before .before .before .before .before .before .before .before .before .before .before .before .before .before .before .before .before .if2 .left, x .tests);
-      writes = omega (arith, c .before .before .before .before .before .before .before .before .before .before .before .before .before .before .before .before .if3 .left, x .writes);
-      cut = sym (cut (c .before .before .before .before .before .before .before .before .before .before .before .before .before .before .before)) ∙ not-false _ (c .before .before .before .before .before .before .before .before .before .before .before .before .before .before .if4 .left);
+      tests = omega (
+        arith,
+        c .before .before .before .before .before .before .before .before .before .before .before .before .before
+            .before .before .before .before .if2 .left,
+        x .tests,
+      );
+      writes = omega (
+        arith,
+        c .before .before .before .before .before .before .before .before .before .before .before .before .before
+            .before .before .before .if3 .left,
+        x .writes,
+      );
+      cut = sym
+          (cut (c .before .before .before .before .before .before .before .before .before .before .before .before
+          .before .before .before))
+          ∙ not-false _
+          (c .before .before .before .before .before .before .before .before .before .before .before .before .before
+          .before .if4 .left);
       ends = ends-at F ∙ c .before .before .before .if7 .left;
-      entries = sym (entries-at F) ∙ not-false _ (c .before .before .before .before .before .before .before .before .before .if6 .left);
+      entries = sym (entries-at F)
+          ∙ not-false _ (c .before .before .before .before .before .before .before .before .before .if6 .left);
     })
-    (c .before .before .before .before .before .before .before .before .before .before .before .before .before .before .before .before .before .before .before .before .before .pre .1)
+    (c .before .before .before .before .before .before .before .before .before .before .before .before .before .before
+    .before .before .before .before .before .before .before .pre .1)
 
 pub test-write-form-spec : {M : Type 1} → statement M
 test-write-form-spec =

@@ -24,7 +24,8 @@ returns : tie.Need-returns
 returns c =
     let a = c .before .before .before .args in
     let s = c .before .i32-at in
-    entry-made (a .self .at) (a .stride) (a .q .now) (s .result) (c .u32-at .result) (record { sfits = s .ok }) (s .ensures) (c .u32-at .ensures)
+    entry-made (a .self .at) (a .stride) (a .q .now) (s .result) (c .u32-at .result) (record { sfits = s .ok })
+    (s .ensures) (c .u32-at .ensures)
 
 pub entry-spec : {M : Type 1} → statement M
 entry-spec =

@@ -16,24 +16,21 @@ u16-at-requires c κs = search needs
 cast-specimen : tie.Need-cast-specimen
 cast-specimen c = search needs
 
-add-t7 : tie.Need-add-t7
-add-t7 c = search needs
+add-t8 : tie.Need-add-t8
+add-t8 c = search needs
 
-shared-slice-read-t9 : tie.Need-shared-slice-read-t9
-shared-slice-read-t9 c = search needs
+shared-slice-read-t10 : tie.Need-shared-slice-read-t10
+shared-slice-read-t10 c = search needs
 
-add-t10 : tie.Need-add-t10
-add-t10 c = search needs
+add-t11 : tie.Need-add-t11
+add-t11 c = search needs
 
-shared-slice-read-t12 : tie.Need-shared-slice-read-t12
-shared-slice-read-t12 c = search needs
-
-add-t13 : tie.Need-add-t13
-add-t13 c = search needs
+shared-slice-read-t13 : tie.Need-shared-slice-read-t13
+shared-slice-read-t13 c = search needs
 
 returns : tie.Need-returns
 unfolding entryOpcode entrySpecimen
-returns c = rw (c .before .before .before .entry .ensures, c .before .before .u16-at .ensures)
+returns c = rw (c .before .before .before .before .entry .ensures, c .before .before .u16-at .ensures)
 
 pub test-spec : {M : Type 1} → statement M
 test-spec =
@@ -43,9 +40,8 @@ test-spec =
     add-u16-at
     u16-at-requires
     cast-specimen
-    add-t7
-    shared-slice-read-t9
-    add-t10
-    shared-slice-read-t12
-    add-t13
+    add-t8
+    shared-slice-read-t10
+    add-t11
+    shared-slice-read-t13
     returns)
