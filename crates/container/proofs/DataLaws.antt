@@ -73,11 +73,13 @@ lent-number c P a b d = go (lengthAllowed c) (wellFormed c)
     go false w = b
 
 -- ---- the answers
-pub lent-length : (c : List ℕ) → Judges c BadLength → _≡_ {A = Lent} (record { number = 1; from = 0; to = 0 }) (lentOf c)
+pub lent-length : (c : List ℕ) → Judges c BadLength
+    → _≡_ {A = Lent} (record { number = 1; from = 0; to = 0 }) (lentOf c)
 unfolding lentOf firstRow
 lent-length c e = let l = judged-length c e in rw (l, length-unformed c l)
 
-pub lent-malformed : (c : List ℕ) → Judges c Malformed → _≡_ {A = Lent} (record { number = 2; from = 0; to = 0 }) (lentOf c)
+pub lent-malformed : (c : List ℕ) → Judges c Malformed
+    → _≡_ {A = Lent} (record { number = 2; from = 0; to = 0 }) (lentOf c)
 unfolding lentOf firstRow
 lent-malformed c e = let m = judged-malformed c e in rw (m .0, m .1)
 

@@ -23,22 +23,27 @@ use Rattle.rules.specs.declared.Answer.{Answer}
 
 -- ---- the ways out: the answer, and the buffer afterwards
 module _ (c node enabler : List ℕ) (x : Answer) where
-  pub create-length : lengthAllowed c ≡ false → x ≡ answerOf 1 noNode 0 → (x ≡ createAnswer c node enabler) × (c ≡ createdContainer c node enabler)
+  pub create-length : lengthAllowed c ≡ false → x ≡ answerOf 1 noNode 0 → (x ≡ createAnswer c node enabler)
+      × (c ≡ createdContainer c node enabler)
   unfolding createAnswer createdContainer createOutcome firstRow
   create-length h e = (rw (h, e), rw h)
 
-  pub create-lengths : lengthAllowed c ≡ true → (eqb (length node) nodeSize && eqb (length enabler) secretSize) ≡ false → x ≡ answerOf 3 noNode 0
+  pub create-lengths : lengthAllowed c ≡ true → (eqb (length node) nodeSize && eqb (length enabler) secretSize) ≡ false
+      → x ≡ answerOf 3 noNode 0
       → (x ≡ createAnswer c node enabler) × (c ≡ createdContainer c node enabler)
   unfolding createAnswer createdContainer createOutcome firstRow
   create-lengths h k e = (rw (h, k, e), rw (h, k))
 
-  pub create-magic : lengthAllowed c ≡ true → length node ≡ nodeSize → length enabler ≡ secretSize → same (take nodeAt c) magic ≡ true → x ≡ answerOf 12 noNode 0
+  pub create-magic : lengthAllowed c ≡ true → length node ≡ nodeSize → length enabler ≡ secretSize
+      → same (take nodeAt c) magic ≡ true → x ≡ answerOf 12 noNode 0
       → (x ≡ createAnswer c node enabler) × (c ≡ createdContainer c node enabler)
   unfolding createAnswer createdContainer createOutcome firstRow
   create-magic h n k m e = (rw (h, eq-eqb _ _ n, eq-eqb _ _ k, m, e), rw (h, eq-eqb _ _ n, eq-eqb _ _ k, m))
 
-  pub create-done : (c' : List ℕ) → lengthAllowed c ≡ true → length node ≡ nodeSize → length enabler ≡ secretSize → same (take nodeAt c) magic ≡ false → x ≡ answerOf 0 noNode 0
-      → c' ≡ encode (fresh (length c) node enabler) → (x ≡ createAnswer c node enabler) × (c' ≡ createdContainer c node enabler)
+  pub create-done : (c' : List ℕ) → lengthAllowed c ≡ true → length node ≡ nodeSize → length enabler ≡ secretSize
+      → same (take nodeAt c) magic ≡ false → x ≡ answerOf 0 noNode 0
+      → c' ≡ encode (fresh (length c) node enabler) → (x ≡ createAnswer c node enabler)
+      × (c' ≡ createdContainer c node enabler)
   unfolding createAnswer createdContainer createOutcome firstRow
   create-done c' h n k m e f = (rw (h, eq-eqb _ _ n, eq-eqb _ _ k, m, e), rw (h, eq-eqb _ _ n, eq-eqb _ _ k, m) f)
 
@@ -68,7 +73,12 @@ module _ (n : ℕ) (m node enabler o : List ℕ) (room : least ≤ n) (lm : leng
       let h : List ℕ = (m ++ node) ++ enabler in
       let l : length (h ++ replicate sizeWidth 0) ≡ offsetAt = simp (length-append, length-replicate) (omega arith) in
       let k : n - sizeAt ≡ sizeWidth + (n - offsetAt) = omega arith in
-      rw (k, zeros-split sizeWidth (n - offsetAt), ← append-assoc h (replicate sizeWidth 0) (replicate (n - offsetAt) 0))
+      rw (
+        k,
+        zeros-split sizeWidth (n - offsetAt),
+        ← append-assoc h (replicate sizeWidth 0)
+            (replicate (n - offsetAt) 0),
+      )
       (put-behind offsetAt (n - offsetAt) (n - leasesAt) o (h ++ replicate sizeWidth 0) l (omega arith))
 
   zeros-end : replicate {A = ℕ} (n - leasesAt) 0

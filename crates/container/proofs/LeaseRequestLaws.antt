@@ -53,13 +53,15 @@ two-rows false false = record { no-node = refl; only-done = refl }
 plain : (p : Parts) (q : Request) → LeaseRequest q → Plain (leaseOutcome p q)
 unfolding leaseOutcome rows admitRows findRows roomRows
 plain p (testWrite k ts ws cut) l = absurd l
-plain p (add r) l = two-rows (leb 64 (present (p .leases)) && not (knows (renewedBy (renewalOf r)) (p .leases))) (ltb (p .room) (used (after p (add r))))
+plain p (add r) l = two-rows (leb 64 (present (p .leases)) && not (knows (renewedBy (renewalOf r)) (p .leases)))
+    (ltb (p .room) (used (after p (add r))))
 plain p (renew t x) l = one-row (not (knows (renewedBy t) (p .leases)))
 plain p (cancel t) l = one-row (not (knows (cancelledBy t) (p .leases)))
 plain p (read rs) l = absurd l
 
 -- The reply space does not matter to them.
-outcome-lease : (p : Parts) (q : Request) (n : ℕ) → LeaseRequest q → firstRow (requestRows p (some q) n) ≡ leaseOutcome p q
+outcome-lease : (p : Parts) (q : Request) (n : ℕ) → LeaseRequest q → firstRow (requestRows p (some q) n)
+    ≡ leaseOutcome p q
 unfolding requestRows leaseOutcome rows admitRows findRows
 outcome-lease p (testWrite k ts ws cut) n l = absurd l
 outcome-lease p (add r) n l = refl
@@ -79,7 +81,8 @@ module _ (c q : List ℕ) (w : Request) (f : wellFormed c ≡ true) (is : reques
   outcome-is : (r : List ℕ) → outcome c q (length r) ≡ leaseOutcome (partsOf c) w
   outcome-is r = outcome-formed c q (length r) f ∙ rw is (outcome-lease (partsOf c) w (length r) l)
 
-  pub lease-answered : (d : Done) → d ≡ leaseDone (partsOf c) w → (r : List ℕ) → answerOf (d .number) noNode (d .count) ≡ answered c q r
+  pub lease-answered : (d : Done) → d ≡ leaseDone (partsOf c) w → (r : List ℕ) → answerOf (d .number) noNode (d .count)
+      ≡ answered c q r
   unfolding answered answerTo leaseDone
   lease-answered d e r =
       let n = plain (partsOf c) w l in

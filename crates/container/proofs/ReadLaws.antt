@@ -1,4 +1,5 @@
--- Kind 5 on a well-formed container: what its reader may rely on, and which row applies at each way out. Assumes nothing.
+-- Kind 5 on a well-formed container: what its reader may rely on, and which row applies at each way out. Assumes
+-- nothing.
 use mathlib.Core.Path.{_≡_, refl, sym, ap, _∙_}
 use mathlib.Core.Bool.{Bool, true, false, cond, not}
 use mathlib.Core.List.{List, [], _∷_, map}
@@ -48,7 +49,8 @@ module _ {c q d : List ℕ} {f : Frame} {t : Table} {m : Measured} (A : Asked c 
   pieces-are : piecesIn t q d ≡ map (readPiece (dataOf c)) (readsFrom (t .count) (t .first .at) q)
   pieces-are = rw (A .bytes, A .request .stride) (sym (read-pieces (t .count) (t .first .at) q (dataOf c)))
 
-  resolves-is : m .resolves ≡ every (λ r. resolves (r .offset) (length (dataOf c))) (readsFrom (t .count) (t .first .at) q)
+  resolves-is : m .resolves
+      ≡ every (λ r. resolves (r .offset) (length (dataOf c))) (readsFrom (t .count) (t .first .at) q)
   resolves-is =
       ap (λ (y : Measured). y .resolves) (A .measured)
       ∙ rw (A .bytes, A .request .stride) (sym (read-resolve (t .count) (t .first .at) q (length (dataOf c))))
@@ -73,7 +75,8 @@ module _ {c q d : List ℕ} {f : Frame} {t : Table} {m : Measured} (A : Asked c 
     pub read-unresolved : m .resolves ≡ false → x ≡ answerOf 4 noNode 0 → (x ≡ answered c q r) × (r ≡ replyAfter c q r)
     unfolding firstRow replies
     read-unresolved h a =
-        refused c q r x 4 (read-outcome (length r) ∙ rw h) (record { not-done = refl; no-node = refl; no-reply = refl }) a
+        refused c q r x 4 (read-outcome (length r)
+        ∙ rw h) (record { not-done = refl; no-node = refl; no-reply = refl }) a
 
     pub read-exceeding : m .resolves ≡ true → m .exceeds ≡ true → x ≡ answerOf 6 noNode 0
         → (x ≡ answered c q r) × (r ≡ replyAfter c q r)
@@ -101,7 +104,8 @@ module _ {c q d : List ℕ} {f : Frame} {t : Table} {m : Measured} (A : Asked c 
   reply-length = sym (ap (λ (y : Measured). y .length) (A .measured))
 
 -- A read, done or refused, leaves the container as it was.
-pub read-container : (c q r : List ℕ) (rs : List Read) → wellFormed c ≡ true → Octets c → requestOf q ≡ some (read rs) → c ≡ containerAfter c q r
+pub read-container : (c q r : List ℕ) (rs : List Read) → wellFormed c ≡ true → Octets c → requestOf q ≡ some (read rs)
+    → c ≡ containerAfter c q r
 unfolding containerAfter afterOf maybe after
 read-container c q r rs w o is = rw is (go (eqb (outcome c q (length r)) 0))
   where

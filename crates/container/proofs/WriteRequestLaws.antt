@@ -1,4 +1,5 @@
--- A test-and-write judged group by group, and what its number makes of answer, container and reply space. Assumes nothing.
+-- A test-and-write judged group by group, and what its number makes of answer, container and reply space. Assumes
+-- nothing.
 use mathlib.Core.Path.{_≡_, refl, sym, ap, _∙_}
 use mathlib.Core.Bool.{Bool, true, false, cond, not, _&&_, false≢true}
 use mathlib.Core.List.{List, [], _∷_, _++_, map}
@@ -89,7 +90,8 @@ unfolding used after withBytes
 after-used p q t = refl
 
 -- ---- the verdict by what the code finds
--- What is measured first: d, the data as the code takes it; m, what the tests ask; x, what the writes reach; s, the final size.
+-- What is measured first: d, the data as the code takes it; m, what the tests ask; x, what the writes reach; s, the
+-- final size.
 pub record Found (c q d : List ℕ) (f : Frame) (t : Parted) (m : Measured) (x : Reached) (s : ℕ) : Type 0 where
   pub known : Known c f
   pub parted : PartedIn q t
@@ -98,7 +100,8 @@ pub record Found (c q d : List ℕ) (f : Frame) (t : Parted) (m : Measured) (x :
   pub reached : x ≡ reachedBy (writesIn t q) (f .size)
   pub final : s ≡ cutSize (cutIn (t .cut)) (x .size)
 
-module _ {c q d : List ℕ} {f : Frame} {t : Parted} {m : Measured} {x : Reached} {s : ℕ} (F : Found c q d f t m x s) where
+module _ {c q d : List ℕ} {f : Frame} {t : Parted} {m : Measured} {x : Reached} {s : ℕ}
+    (F : Found c q d f t m x s) where
   abbrev asks : Request
   asks = writeIn t q
 
@@ -222,7 +225,8 @@ module _ {c q : List ℕ} {f : Frame} {t : Parted} {v : Verdict} (D : Decided c 
   fits-decided : v .number ≡ 0 → used (after (partsOf c) (writeIn t q)) ≤ length c
   unfolding after withBytes partsOf
   fits-decided e =
-      after-valid (partsOf c) (writeIn t q) (D .space) (parts-valid c (D .known .formed)) tt (sym number-decided ∙ e) .fits
+      after-valid (partsOf c) (writeIn t q) (D .space) (parts-valid c (D .known .formed)) tt (sym number-decided
+      ∙ e) .fits
 
   -- A verdict of 0 has room for the final size.
   pub room : v .number ≡ 0 → Final q t f (v .size) (length c)

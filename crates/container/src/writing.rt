@@ -74,7 +74,7 @@ fn fit(room: usize, used: usize) -> u32
 }
 
 // The verdict. The room is judged on the final size: a size on the way to the cut is a number, never bytes.
-pub fn judge(c: &[u8], frame: Frame, q: &[u8], t: Parted, space: usize) -> Verdict
+pub fn verdict_of(c: &[u8], frame: Frame, q: &[u8], t: Parted, space: usize) -> Verdict
     requires { ⌜ Known (now c) frame × PartedIn (now q) t ⌝ }
     ensures { λ r. ⌜ r ≡ verdictOf (partsOf (now (c .entry))) (writeIn t (now (q .entry))) space ⌝ }
 {
@@ -139,7 +139,7 @@ pub(crate) fn test_and_write(
     ensures { λ _. ⌜ now (c .exit) ≡ containerAfter (now (c .entry)) (now (q .entry)) (now (r .entry)) ⌝ }
     ensures { λ _. ⌜ now (r .exit) ≡ replyAfter (now (c .entry)) (now (q .entry)) (now (r .entry)) ⌝ }
 {
-    let verdict = judge(c, frame, q, t, r.len());
+    let verdict = verdict_of(c, frame, q, t, r.len());
     let number = verdict.number;
     if number == 5 {
         return enabler_differs(c);

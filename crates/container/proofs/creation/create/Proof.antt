@@ -29,7 +29,8 @@ answer-requires-2 c κs = search needs
 returns-2 : tie.Need-returns-2
 returns-2 c =
     let a = c .before .before .before .before .before .before .args in
-    create-length (a .c .now) (a .node .now) (a .enabler .now) _ (too-long _ (omega arith) (omega arith)) (c .answer2 .ensures)
+    create-length (a .c .now) (a .node .now) (a .enabler .now) _ (too-long _ (omega arith) (omega arith))
+    (c .answer2 .ensures)
 
 answer-requires-3 : tie.Need-answer-requires-3
 answer-requires-3 c κs = search needs
@@ -37,7 +38,8 @@ answer-requires-3 c κs = search needs
 returns-3 : tie.Need-returns-3
 returns-3 c =
     let a = c .before .before .before .before .before .before .before .args in
-    create-lengths (a .c .now) (a .node .now) (a .enabler .now) _ (allowed (c .before .before)) (rw (ne-eqb (length (a .node .now)) 20 (c .before .if3 .taken))) (c .answer3 .ensures)
+    create-lengths (a .c .now) (a .node .now) (a .enabler .now) _ (allowed (c .before .before))
+    (rw (ne-eqb (length (a .node .now)) 20 (c .before .if3 .taken))) (c .answer3 .ensures)
 
 answer-requires-4 : tie.Need-answer-requires-4
 answer-requires-4 c κs = search needs
@@ -45,7 +47,12 @@ answer-requires-4 c κs = search needs
 returns-4 : tie.Need-returns-4
 returns-4 c =
     let a = c .before .before .before .before .before .before .before .before .args in
-    create-lengths (a .c .now) (a .node .now) (a .enabler .now) _ (allowed (c .before .before .before)) (rw (eq-eqb (length (a .node .now)) 20 (c .before .before .if3 .left), ne-eqb (length (a .enabler .now)) 32 (c .before .if4 .taken))) (c .answer4 .ensures)
+    create-lengths (a .c .now) (a .node .now) (a .enabler .now) _ (allowed (c .before .before .before))
+    (rw (
+      eq-eqb (length (a .node .now)) 20 (c .before .before .if3 .left),
+      ne-eqb (length (a .enabler .now)) 32
+          (c .before .if4 .taken),
+    )) (c .answer4 .ensures)
 
 has-magic-requires : tie.Need-has-magic-requires
 has-magic-requires c κs = search needs
@@ -59,7 +66,9 @@ same-length c = search needs
 returns-5 : tie.Need-returns-5
 returns-5 c =
     let a = c .before .before .before .before .before .before .before .before .before .before .before .args in
-    create-magic (a .c .now) (a .node .now) (a .enabler .now) _ (allowed (c .before .before .before .before .before .before)) (omega arith) (omega arith) (sym (c .before .before .has-magic .ensures) ∙ c .before .if5 .taken) (c .answer5 .ensures)
+    create-magic (a .c .now) (a .node .now) (a .enabler .now) _
+    (allowed (c .before .before .before .before .before .before)) (omega arith) (omega arith)
+    (sym (c .before .before .has-magic .ensures) ∙ c .before .if5 .taken) (c .answer5 .ensures)
 
 write-fresh-requires : tie.Need-write-fresh-requires
 write-fresh-requires c κs = search needs
@@ -72,8 +81,13 @@ same-length-2 c = search needs
 
 returns-6 : tie.Need-returns-6
 returns-6 c =
-    let a = c .before .before .before .before .before .before .before .before .before .before .before .before .before .before .before .args in
-    create-done (a .c .now) (a .node .now) (a .enabler .now) _ _ (allowed (c .before .before .before .before .before .before .before .before .before .before)) (omega arith) (omega arith) (sym (c .before .before .before .before .before .before .has-magic .ensures) ∙ c .before .before .before .before .before .if5 .left) (c .answer6 .ensures) (c .before .before .before .write-fresh .ensures)
+    let a = c .before .before .before .before .before .before .before .before .before .before .before .before .before
+    .before .before .args in
+    create-done (a .c .now) (a .node .now) (a .enabler .now) _ _
+    (allowed (c .before .before .before .before .before .before .before .before .before .before)) (omega arith)
+    (omega arith) (sym (c .before .before .before .before .before .before .has-magic .ensures)
+    ∙ c .before .before .before .before .before .if5 .left) (c .answer6 .ensures)
+    (c .before .before .before .write-fresh .ensures)
 
 pub create-spec : {M : Type 1} → statement M
 create-spec =

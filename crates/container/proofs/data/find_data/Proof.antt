@@ -23,7 +23,8 @@ enum-known-frame c = search needs
 
 data-end-requires : tie.Need-data-end-requires
 data-end-requires c κs =
-    let k = judged-formed _ _ (subst (Judges _) (c .before .frame .given .1) (c .before .before .before .judge .ensures)) in
+    let k = judged-formed _ _ (subst (Judges _) (c .before .frame .given .1)
+    (c .before .before .before .judge .ensures)) in
     omega (arith, known-room k)
 
 returns : tie.Need-returns
@@ -33,7 +34,8 @@ returns-2 : tie.Need-returns-2
 returns-2 c = lent-malformed _ (subst (Judges _) (c .enum-told2 .given .1) (c .before .before .judge .ensures))
 
 returns-3 : tie.Need-returns-3
-returns-3 c = lent-formed _ _ _ (subst (Judges _) (c .before .before .frame .given .1) (c .before .before .before .before .judge .ensures)) (c .data-end .ensures)
+returns-3 c = lent-formed _ _ _ (subst (Judges _) (c .before .before .frame .given .1)
+    (c .before .before .before .before .judge .ensures)) (c .data-end .ensures)
 
 pub find-data-spec : {M : Type 1} → statement M
 find-data-spec =

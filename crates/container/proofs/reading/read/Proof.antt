@@ -3,12 +3,15 @@ use mathlib.Core.Path.{_≡_, sym, _∙_}
 use native.Mathlib.Omega.{arith}
 use borrow.Author.Tests.{not-true, not-false}
 use Rattle.container.proofs.KnownLaws.{lent, known-room, lent-is, lent-small}
-use Rattle.container.proofs.ReadLaws.{Asked, reply-length, read-unresolved, read-exceeding, read-no-space, read-done}
+use Rattle.container.proofs.ReadLaws.{Asked, reply-length, read-unresolved, read-exceeding, read-no-space}
+use Rattle.container.proofs.ReadLaws.{read-done}
 use borrow.Author.Needs.{needs}
 use Rattle.container.proofs.reading.read.Statement.{statement}
 use Rattle.container.proofs.reading.read.Tie as tie
 
-asked : (c : tie.After-measure) → let a = c .before .before .before .before .before .before .args in Asked (a .c .now) (a .q .now) (lent (a .c .now) (c .before .before .data-end .result)) (a .frame) (a .t) (c .measure .result)
+asked : (c : tie.After-measure) → let a = c .before .before .before .before .before .before .args in
+    Asked (a .c .now) (a .q .now) (lent (a .c .now) (c .before .before .data-end .result)) (a .frame) (a .t)
+    (c .measure .result)
 asked c = record {
   known = c .before .before .before .before .before .before .pre .0;
   request = c .before .before .before .before .before .before .pre .1;
@@ -29,30 +32,41 @@ part-d-end : tie.Need-part-d-end
 part-d-end c = omega (arith, c .data-end .ensures, known-room (c .before .before .before .before .pre .0))
 
 measure-requires : tie.Need-measure-requires
-measure-requires c κs = let s = c .before .before .before .before .before in (s .pre .1 .table, lent-small (s .pre .0) (c .before .data-end .ensures))
+measure-requires c κs = let s = c .before .before .before .before .before in
+    (s .pre .1 .table, lent-small (s .pre .0) (c .before .data-end .ensures))
 
 answer-requires : tie.Need-answer-requires
 answer-requires c κs = search needs
 
 returns : tie.Need-returns
-returns c = read-unresolved (asked (c .before .before .before)) (c .before .before .before .before .before .before .before .before .before .args .r .now) _ (not-true _ (c .before .if1 .taken)) (c .answer .ensures)
+returns c = read-unresolved (asked (c .before .before .before))
+    (c .before .before .before .before .before .before .before .before .before .args .r .now) _
+    (not-true _ (c .before .if1 .taken)) (c .answer .ensures)
 
 answer-requires-2 : tie.Need-answer-requires-2
 answer-requires-2 c κs = search needs
 
 returns-2 : tie.Need-returns-2
-returns-2 c = read-exceeding (asked (c .before .before .before .before)) (c .before .before .before .before .before .before .before .before .before .before .args .r .now) _ (not-false _ (c .before .before .if1 .left)) (c .before .if2 .taken) (c .answer2 .ensures)
+returns-2 c = read-exceeding (asked (c .before .before .before .before))
+    (c .before .before .before .before .before .before .before .before .before .before .args .r .now) _
+    (not-false _ (c .before .before .if1 .left)) (c .before .if2 .taken) (c .answer2 .ensures)
 
 answer-requires-3 : tie.Need-answer-requires-3
 answer-requires-3 c κs = search needs
 
 returns-3 : tie.Need-returns-3
-returns-3 c = read-no-space (asked (c .before .before .before .before .before)) (c .before .before .before .before .before .before .before .before .before .before .before .args .r .now) _ (not-false _ (c .before .before .before .if1 .left)) (c .before .before .if2 .left) (c .before .if3 .taken) (c .answer3 .ensures)
+returns-3 c = read-no-space (asked (c .before .before .before .before .before))
+    (c .before .before .before .before .before .before .before .before .before .before .before .args .r .now) _
+    (not-false _ (c .before .before .before .if1 .left)) (c .before .before .if2 .left) (c .before .if3 .taken)
+    (c .answer3 .ensures)
 
 write-reply-requires : tie.Need-write-reply-requires
 write-reply-requires c κs =
-    let s = c .before .before .before .before .before .before .before .before .before .before .before in
-    (s .pre .1 .table, lent-small (s .pre .0) (c .before .before .before .before .before .before .before .data-end .ensures), omega (arith, reply-length (asked (c .before .before .before .before .before)), c .before .if3 .left))
+    let s = c .before .before .before .before .before .before .before .before .before .before .before in (
+      s .pre .1 .table,
+      lent-small (s .pre .0) (c .before .before .before .before .before .before .before .data-end .ensures),
+      omega (arith, reply-length (asked (c .before .before .before .before .before)), c .before .if3 .left),
+    )
 
 answer-requires-4 : tie.Need-answer-requires-4
 answer-requires-4 c κs = search needs
@@ -62,7 +76,13 @@ same-length c = search needs
 
 returns-4 : tie.Need-returns-4
 returns-4 c =
-    read-done (asked (c .before .before .before .before .before .before .before .before .before)) (c .before .before .before .before .before .before .before .before .before .before .before .before .before .before .before .args .r .now) _ (not-false _ (c .before .before .before .before .before .before .before .if1 .left)) (c .before .before .before .before .before .before .if2 .left) _ (c .before .before .before .before .before .if3 .left) (c .answer4 .ensures) (c .before .before .before .write-reply .ensures)
+    read-done (asked (c .before .before .before .before .before .before .before .before .before))
+    (c .before .before .before .before .before .before .before .before .before .before .before .before .before
+    .before .before .args .r .now) _
+    (not-false _ (c .before .before .before .before .before .before .before .if1 .left))
+    (c .before .before .before .before .before .before .if2 .left) _
+    (c .before .before .before .before .before .if3 .left) (c .answer4 .ensures)
+    (c .before .before .before .write-reply .ensures)
 
 pub read-spec : {M : Type 1} → statement M
 read-spec =

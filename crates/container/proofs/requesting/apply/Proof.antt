@@ -26,7 +26,8 @@ enum-known-frame : tie.Need-enum-known-frame
 enum-known-frame c = search needs
 
 apply-formed-requires : tie.Need-apply-formed-requires
-apply-formed-requires c κs = judged-formed _ _ (subst (Judges _) (c .before .before .before .frame .given .1) (c .before .before .before .before .before .judge .ensures))
+apply-formed-requires c κs = judged-formed _ _ (subst (Judges _) (c .before .before .before .frame .given .1)
+    (c .before .before .before .before .before .judge .ensures))
 
 same-length : tie.Need-same-length
 same-length c = search needs
@@ -44,7 +45,8 @@ same-length-2 c = search needs
 returns-2 : tie.Need-returns-2
 returns-2 c =
     let s = c .before .before .before .before .before .before .before .before in
-    let m = judged-malformed _ (subst (Judges _) (c .before .enum-told2 .given .1) (c .before .before .before .judge .ensures)) in
+    let m = judged-malformed _ (subst (Judges _) (c .before .enum-told2 .given .1)
+    (c .before .before .before .judge .ensures)) in
     let r = malformed (s .args .c .now) (s .args .q .now) (s .args .r .now) (m .0) (m .1) in
     (c .answer2 .ensures ∙ r .answer, (r .container, r .reply))
 

@@ -32,22 +32,31 @@ enum-known-t c = search needs
 
 test-and-write-requires : tie.Need-test-and-write-requires
 test-and-write-requires c κs =
-    let f = subst (Takes _ _) (c .before .before .before .t .given .1) (c .before .before .before .before .before .form-of .ensures) in
-    (c .before .before .before .before .before .before .before .before .before .pre, record { parted = f .inside; is = sym (f .asks) })
+    let f = subst (Takes _ _) (c .before .before .before .t .given .1)
+    (c .before .before .before .before .before .form-of .ensures) in (
+      c .before .before .before .before .before .before .before .before .before .pre,
+      record { parted = f .inside; is = sym (f .asks) },
+    )
 
 enum-known-lease : tie.Need-enum-known-lease
 enum-known-lease c = search needs
 
 bytes-requires : tie.Need-bytes-requires
 bytes-requires c κs =
-    let b = subst (Takes _ _) (c .before .before .lease .given .1) (c .before .before .before .before .form-of .ensures) .inside .0 in
+    let b = subst (Takes _ _) (c .before .before .lease .given .1)
+    (c .before .before .before .before .form-of .ensures) .inside .0 in
     (omega (arith, b .size), b .fits)
 
 add-lease-requires : tie.Need-add-lease-requires
 add-lease-requires c κs =
-    let i = subst (Takes _ _) (c .before .before .before .lease .given .1) (c .before .before .before .before .before .form-of .ensures) .inside in
-    let e = c .bytes .ensures in
-    (c .before .before .before .before .before .before .before .before .before .pre, ap length e ∙ body-length _ _ _ (i .0), ap held e ∙ i .1)
+    let i = subst (Takes _ _) (c .before .before .before .lease .given .1)
+    (c .before .before .before .before .before .form-of .ensures) .inside in
+    let e = c .bytes .ensures in (
+      c .before .before .before .before .before .before .before .before .before .pre,
+      ap length e
+          ∙ body-length _ _ _ (i .0),
+      ap held e ∙ i .1,
+    )
 
 answer-requires-2 : tie.Need-answer-requires-2
 answer-requires-2 c κs = search needs
@@ -57,13 +66,18 @@ enum-known-token c = search needs
 
 bytes-requires-2 : tie.Need-bytes-requires-2
 bytes-requires-2 c κs =
-    let b = subst (Takes _ _) (c .before .before .token .given .1) (c .before .before .before .before .form-of .ensures) .inside in
+    let b = subst (Takes _ _) (c .before .before .token .given .1)
+    (c .before .before .before .before .form-of .ensures) .inside in
     (omega (arith, b .size), b .fits)
 
 renew-lease-requires : tie.Need-renew-lease-requires
 renew-lease-requires c κs =
-    let i = subst (Takes _ _) (c .before .before .before .token .given .1) (c .before .before .before .before .before .form-of .ensures) .inside in
-    (c .before .before .before .before .before .before .before .before .before .pre, ap length (c .bytes2 .ensures) ∙ body-length _ _ _ i)
+    let i = subst (Takes _ _) (c .before .before .before .token .given .1)
+    (c .before .before .before .before .before .form-of .ensures) .inside in (
+      c .before .before .before .before .before .before .before .before .before .pre,
+      ap length (c .bytes2 .ensures)
+          ∙ body-length _ _ _ i,
+    )
 
 answer-requires-3 : tie.Need-answer-requires-3
 answer-requires-3 c κs = search needs
@@ -73,13 +87,18 @@ enum-known-token-2 c = search needs
 
 bytes-requires-3 : tie.Need-bytes-requires-3
 bytes-requires-3 c κs =
-    let b = subst (Takes _ _) (c .before .before .token2 .given .1) (c .before .before .before .before .form-of .ensures) .inside in
+    let b = subst (Takes _ _) (c .before .before .token2 .given .1)
+    (c .before .before .before .before .form-of .ensures) .inside in
     (omega (arith, b .size), b .fits)
 
 cancel-lease-requires : tie.Need-cancel-lease-requires
 cancel-lease-requires c κs =
-    let i = subst (Takes _ _) (c .before .before .before .token2 .given .1) (c .before .before .before .before .before .form-of .ensures) .inside in
-    (c .before .before .before .before .before .before .before .before .before .pre, ap length (c .bytes3 .ensures) ∙ body-length _ _ _ i)
+    let i = subst (Takes _ _) (c .before .before .before .token2 .given .1)
+    (c .before .before .before .before .before .form-of .ensures) .inside in (
+      c .before .before .before .before .before .before .before .before .before .pre,
+      ap length (c .bytes3 .ensures)
+          ∙ body-length _ _ _ i,
+    )
 
 answer-requires-4 : tie.Need-answer-requires-4
 answer-requires-4 c κs = search needs
@@ -89,8 +108,11 @@ enum-known-t-2 c = search needs
 
 read-requires : tie.Need-read-requires
 read-requires c κs =
-    let f = subst (Takes _ _) (c .before .before .before .t2 .given .1) (c .before .before .before .before .before .form-of .ensures) in
-    (c .before .before .before .before .before .before .before .before .before .pre, record { table = f .inside .0; stride = f .inside .1; is = sym (f .asks) })
+    let f = subst (Takes _ _) (c .before .before .before .t2 .given .1)
+    (c .before .before .before .before .before .form-of .ensures) in (
+      c .before .before .before .before .before .before .before .before .before .pre,
+      record { table = f .inside .0; stride = f .inside .1; is = sym (f .asks) },
+    )
 
 returns : tie.Need-returns
 returns c =
@@ -115,10 +137,13 @@ returns-3 : tie.Need-returns-3
 returns-3 c =
     let s = c .before .before .before .before .before .before .before .before .before .before .before .before .before in
     let x = s .args .c .now in
-    let f = subst (Takes _ _) (c .before .before .before .before .before .before .before .lease .given .1) (c .before .before .before .before .before .before .before .before .before .form-of .ensures) in
+    let f = subst (Takes _ _) (c .before .before .before .before .before .before .before .lease .given .1)
+    (c .before .before .before .before .before .before .before .before .before .form-of .ensures) in
     let d = c .before .before .before .add-lease in
     let e = c .before .before .before .before .bytes .ensures in
-    lease-results x (s .args .q .now) _ (s .pre .formed) (sym (f .asks)) tt (d .result) _ _ _ (d .ensures .0 ∙ ap (λ (l : List ℕ). leaseDone (partsOf x) (add l)) e) (d .ensures .1 ∙ ap (λ (l : List ℕ). leaseContainer x (add l)) e) (c .answer2 .ensures)
+    lease-results x (s .args .q .now) _ (s .pre .formed) (sym (f .asks)) tt (d .result) _ _ _ (d .ensures .0
+    ∙ ap (λ (l : List ℕ). leaseDone (partsOf x) (add l)) e) (d .ensures .1
+    ∙ ap (λ (l : List ℕ). leaseContainer x (add l)) e) (c .answer2 .ensures)
 
 same-length-4 : tie.Need-same-length-4
 same-length-4 c = search needs
@@ -127,11 +152,14 @@ returns-4 : tie.Need-returns-4
 returns-4 c =
     let s = c .before .before .before .before .before .before .before .before .before .before .before .before .before in
     let x = s .args .c .now in
-    let f = subst (Takes _ _) (c .before .before .before .before .before .before .before .token .given .1) (c .before .before .before .before .before .before .before .before .before .form-of .ensures) in
+    let f = subst (Takes _ _) (c .before .before .before .before .before .before .before .token .given .1)
+    (c .before .before .before .before .before .before .before .before .before .form-of .ensures) in
     let d = c .before .before .before .renew-lease in
     let e = c .before .before .before .before .bytes2 .ensures in
     let y = c .before .before .before .before .before .before .before .token .given .0 .1 .0 in
-    lease-results x (s .args .q .now) _ (s .pre .formed) (sym (f .asks)) tt (d .result) _ _ _ (d .ensures .0 ∙ ap (λ (l : List ℕ). leaseDone (partsOf x) (renew l y)) e) (d .ensures .1 ∙ ap (λ (l : List ℕ). leaseContainer x (renew l y)) e) (c .answer3 .ensures)
+    lease-results x (s .args .q .now) _ (s .pre .formed) (sym (f .asks)) tt (d .result) _ _ _ (d .ensures .0
+    ∙ ap (λ (l : List ℕ). leaseDone (partsOf x) (renew l y)) e) (d .ensures .1
+    ∙ ap (λ (l : List ℕ). leaseContainer x (renew l y)) e) (c .answer3 .ensures)
 
 same-length-5 : tie.Need-same-length-5
 same-length-5 c = search needs
@@ -140,10 +168,13 @@ returns-5 : tie.Need-returns-5
 returns-5 c =
     let s = c .before .before .before .before .before .before .before .before .before .before .before .before .before in
     let x = s .args .c .now in
-    let f = subst (Takes _ _) (c .before .before .before .before .before .before .before .token2 .given .1) (c .before .before .before .before .before .before .before .before .before .form-of .ensures) in
+    let f = subst (Takes _ _) (c .before .before .before .before .before .before .before .token2 .given .1)
+    (c .before .before .before .before .before .before .before .before .before .form-of .ensures) in
     let d = c .before .before .before .cancel-lease in
     let e = c .before .before .before .before .bytes3 .ensures in
-    lease-results x (s .args .q .now) _ (s .pre .formed) (sym (f .asks)) tt (d .result) _ _ _ (d .ensures .0 ∙ ap (λ (l : List ℕ). leaseDone (partsOf x) (cancel l)) e) (d .ensures .1 ∙ ap (λ (l : List ℕ). leaseContainer x (cancel l)) e) (c .answer4 .ensures)
+    lease-results x (s .args .q .now) _ (s .pre .formed) (sym (f .asks)) tt (d .result) _ _ _ (d .ensures .0
+    ∙ ap (λ (l : List ℕ). leaseDone (partsOf x) (cancel l)) e) (d .ensures .1
+    ∙ ap (λ (l : List ℕ). leaseContainer x (cancel l)) e) (c .answer4 .ensures)
 
 same-length-6 : tie.Need-same-length-6
 same-length-6 c = search needs
@@ -154,9 +185,21 @@ same-length-7 c = search needs
 returns-6 : tie.Need-returns-6
 returns-6 c =
     let s = c .before .before .before .before .before .before .before .before .before .before .before .before in
-    let f = subst (Takes _ _) (c .before .before .before .before .before .before .t2 .given .1) (c .before .before .before .before .before .before .before .before .form-of .ensures) in
-    let d = c .before .before .read .ensures in
-    (d .0, (read-container (s .args .c .now) (s .args .q .now) (s .args .r .now) _ (s .pre .formed) (λ i. omega (arith, c .before .before .before .before .before .before .before .before .before .before .before .slice-known .given i)) (sym (f .asks)), d .1))
+    let f = subst (Takes _ _) (c .before .before .before .before .before .before .t2 .given .1)
+    (c .before .before .before .before .before .before .before .before .form-of .ensures) in
+    let d = c .before .before .read .ensures in (
+      d .0,
+      (
+        read-container (s .args .c .now) (s .args .q .now) (s .args .r .now) _ (s .pre .formed)
+            (λ i. omega (
+              arith,
+              c .before .before .before .before .before .before .before .before .before .before .before
+                  .slice-known .given
+                  i,
+            )) (sym (f .asks)),
+        d .1,
+      ),
+    )
 
 pub apply-formed-spec : {M : Type 1} → statement M
 apply-formed-spec =

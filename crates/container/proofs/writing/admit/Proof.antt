@@ -16,9 +16,14 @@ use borrow.Author.Needs.{needs}
 use Rattle.container.proofs.writing.admit.Statement.{statement}
 use Rattle.container.proofs.writing.admit.Tie as tie
 
-enablers : (c : tie.After-same) → c .same .result ≡ same (bodyOf (c .before .before .before .before .before .before .args .enabler) (c .before .before .before .before .before .before .args .q .now)) (enablerOf (c .before .before .before .before .before .before .args .c .now))
+enablers : (c : tie.After-same) → c .same .result
+    ≡ same (bodyOf (c .before .before .before .before .before .before .args .enabler)
+    (c .before .before .before .before .before .before .args .q .now))
+    (enablerOf (c .before .before .before .before .before .before .args .c .now))
 unfolding enablerOf
-enablers c = c .same .ensures ∙ ap (λ (l : List ℕ). same l (enablerOf (c .before .before .before .before .before .before .args .c .now))) (c .before .before .bytes .ensures)
+enablers c = c .same .ensures
+    ∙ ap (λ (l : List ℕ). same l (enablerOf (c .before .before .before .before .before .before .args .c .now)))
+    (c .before .before .bytes .ensures)
 
 returns : tie.Need-returns
 unfolding firstRow
@@ -44,11 +49,21 @@ same-requires c κs =
 
 returns-2 : tie.Need-returns-2
 unfolding firstRow
-returns-2 c = sym (rw (not-false (c .before .before .before .before .before .before .before .args .resolves) (c .before .before .before .before .if1 .left), sym (enablers (c .before)) ∙ not-true _ (c .if2 .taken)))
+returns-2 c =
+    sym (rw (
+      not-false (c .before .before .before .before .before .before .before .args .resolves)
+          (c .before .before .before .before .if1 .left),
+      sym (enablers (c .before)) ∙ not-true _ (c .if2 .taken),
+    ))
 
 returns-3 : tie.Need-returns-3
 unfolding firstRow
-returns-3 c = sym (rw (not-false (c .before .before .before .before .before .before .before .args .resolves) (c .before .before .before .before .if1 .left), sym (enablers (c .before)) ∙ not-false _ (c .if2 .left)))
+returns-3 c =
+    sym (rw (
+      not-false (c .before .before .before .before .before .before .before .args .resolves)
+          (c .before .before .before .before .if1 .left),
+      sym (enablers (c .before)) ∙ not-false _ (c .if2 .left),
+    ))
 
 pub admit-spec : {M : Type 1} → statement M
 admit-spec =

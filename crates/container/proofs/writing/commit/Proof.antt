@@ -5,7 +5,8 @@ use Rattle.container.proofs.writing.commit.Statement.{statement}
 use Rattle.container.proofs.writing.commit.Tie as tie
 
 rewrite-requires : tie.Need-rewrite-requires
-rewrite-requires c κs = let s = c .before .before .before in (s .pre .0 .known, s .pre .0 .parted, room (s .pre .0) (s .pre .1))
+rewrite-requires c κs = let s = c .before .before .before in
+    (s .pre .0 .known, s .pre .0 .parted, room (s .pre .0) (s .pre .1))
 
 same-length : tie.Need-same-length
 same-length c = search needs

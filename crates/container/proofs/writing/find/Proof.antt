@@ -15,11 +15,19 @@ all-hold-requires c κs = search needs
 
 returns-2 : tie.Need-returns-2
 unfolding firstRow
-returns-2 c = sym (rw (le-ltb _ _ (c .before .before .if1 .left), sym (c .before .all-hold .ensures) ∙ not-true _ (c .if2 .taken)))
+returns-2 c = sym (rw (
+  le-ltb _ _ (c .before .before .if1 .left),
+  sym (c .before .all-hold .ensures)
+      ∙ not-true _ (c .if2 .taken),
+))
 
 returns-3 : tie.Need-returns-3
 unfolding firstRow
-returns-3 c = sym (rw (le-ltb _ _ (c .before .before .if1 .left), sym (c .before .all-hold .ensures) ∙ not-false _ (c .if2 .left)))
+returns-3 c = sym (rw (
+  le-ltb _ _ (c .before .before .if1 .left),
+  sym (c .before .all-hold .ensures)
+      ∙ not-false _ (c .if2 .left),
+))
 
 pub find-spec : {M : Type 1} → statement M
 find-spec = tie.close (tie.spec returns all-hold-requires returns-2 returns-3)

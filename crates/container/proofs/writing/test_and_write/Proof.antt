@@ -6,25 +6,37 @@ use native.Mathlib.Omega.{arith}
 use borrow.Author.Tests.{not-true, not-false}
 use Rattle.rules.specs.Outcomes.{replies}
 use Rattle.container.proofs.KnownLaws.{known-room, lent-is, lent-small}
-use Rattle.container.proofs.WriteRequestLaws.{Writing, decided, differs, other, accepted, reply-fits, failed, done}
+use Rattle.container.proofs.WriteRequestLaws.{Writing, decided, differs, other, accepted, reply-fits, failed}
+use Rattle.container.proofs.WriteRequestLaws.{done}
 use borrow.Author.Needs.{needs}
 use Rattle.container.proofs.writing.test_and_write.Statement.{statement}
 use Rattle.container.proofs.writing.test_and_write.Tie as tie
 
-writing : (c : tie.After-judge) → let a = c .before .before .before .before .before .args in Writing (a .c .now) (a .q .now) (a .r .now) (a .frame) (a .t) (c .judge .result)
-writing c = record { known = c .before .before .before .before .before .pre .0; request = c .before .before .before .before .before .pre .1; verdict = c .judge .ensures }
+writing : (c : tie.After-verdict-of) → let a = c .before .before .before .before .before .args in
+    Writing (a .c .now) (a .q .now) (a .r .now) (a .frame) (a .t) (c .verdict-of .result)
+writing c = record {
+  known = c .before .before .before .before .before .pre .0;
+  request =
+      c .before .before .before .before .before .pre .1;
+  verdict = c .verdict-of .ensures;
+}
 
-replying : (c : tie.Else2) → replies (c .before .before .before .judge .result .number) ≡ true
+replying : (c : tie.Else2) → replies (c .before .before .before .verdict-of .result .number) ≡ true
 replying c = sym (c .before .reports .ensures) ∙ not-false _ (c .if2 .left)
 
-accepting : (c : tie.Else3) → c .before .before .before .before .before .before .before .before .before .before .before .judge .result .number ≡ 0
-accepting c = accepted (writing (c .before .before .before .before .before .before .before .before .before .before .before)) (replying (c .before .before .before .before .before .before .before .before)) (c .if3 .left)
+accepting : (c : tie.Else3)
+    → c .before .before .before .before .before .before .before .before .before .before .before .verdict-of .result .number
+    ≡ 0
+accepting c =
+    accepted (writing (c .before .before .before .before .before .before .before .before .before .before .before))
+    (replying (c .before .before .before .before .before .before .before .before)) (c .if3 .left)
 
-judge-requires : tie.Need-judge-requires
-judge-requires c κs = search needs
+verdict-of-requires : tie.Need-verdict-of-requires
+verdict-of-requires c κs = search needs
 
 enabler-differs-requires : tie.Need-enabler-differs-requires
-enabler-differs-requires c κs = omega (arith, known-room (c .before .before .before .before .before .before .before .pre .0))
+enabler-differs-requires c κs =
+    omega (arith, known-room (c .before .before .before .before .before .before .before .pre .0))
 
 same-length : tie.Need-same-length
 same-length c = search needs
@@ -42,10 +54,12 @@ same-length-2 : tie.Need-same-length-2
 same-length-2 c = search needs
 
 returns-2 : tie.Need-returns-2
-returns-2 c = other (writing (c .before .before .before .before)) (c .before .before .before .if1 .left) (sym (c .before .before .reports .ensures) ∙ not-true _ (c .before .if2 .taken)) (c .answer .ensures)
+returns-2 c = other (writing (c .before .before .before .before)) (c .before .before .before .if1 .left)
+    (sym (c .before .before .reports .ensures) ∙ not-true _ (c .before .if2 .taken)) (c .answer .ensures)
 
 data-end-requires : tie.Need-data-end-requires
-data-end-requires c κs = omega (arith, known-room (c .before .before .before .before .before .before .before .before .pre .0))
+data-end-requires c κs =
+    omega (arith, known-room (c .before .before .before .before .before .before .before .before .pre .0))
 
 sub-write-reply : tie.Need-sub-write-reply
 sub-write-reply c = search needs
@@ -54,13 +68,21 @@ part-write-reply-start : tie.Need-part-write-reply-start
 part-write-reply-start c = search needs
 
 part-write-reply-end : tie.Need-part-write-reply-end
-part-write-reply-end c = omega (arith, c .before .data-end .ensures, known-room (c .before .before .before .before .before .before .before .before .before .before .pre .0))
+part-write-reply-end c = omega (
+  arith,
+  c .before .data-end .ensures,
+  known-room (c .before .before .before .before .before .before .before .before .before .before .pre .0),
+)
 
 write-reply-requires : tie.Need-write-reply-requires
 write-reply-requires c κs =
     let s = c .before .before .before .before .before .before .before .before .before .before .before .before in
-    let e = c .before .before .before .data-end .ensures in
-    (s .pre .1 .parted .tests, lent-small (s .pre .0) e, reply-fits (writing (c .before .before .before .before .before .before .before)) (lent-is (s .pre .0) e) (replying (c .before .before .before .before)))
+    let e = c .before .before .before .data-end .ensures in (
+      s .pre .1 .parted .tests,
+      lent-small (s .pre .0) e,
+      reply-fits (writing (c .before .before .before .before .before .before .before)) (lent-is (s .pre .0) e)
+          (replying (c .before .before .before .before)),
+    )
 
 answer-requires-2 : tie.Need-answer-requires-2
 answer-requires-2 c κs = search needs
@@ -73,10 +95,18 @@ same-length-4 c = search needs
 
 returns-3 : tie.Need-returns-3
 returns-3 c =
-    failed (writing (c .before .before .before .before .before .before .before .before .before .before .before .before)) (lent-is (c .before .before .before .before .before .before .before .before .before .before .before .before .before .before .before .before .before .pre .0) (c .before .before .before .before .before .before .before .before .data-end .ensures)) (c .before .if3 .taken) (c .answer2 .ensures) (c .before .before .before .before .write-reply .ensures)
+    failed (writing (c .before .before .before .before .before .before .before .before .before .before .before .before))
+    (lent-is (c .before .before .before .before .before .before .before .before .before .before .before .before
+    .before .before .before .before .before .pre .0)
+    (c .before .before .before .before .before .before .before .before .data-end .ensures)) (c .before .if3 .taken)
+    (c .answer2 .ensures) (c .before .before .before .before .write-reply .ensures)
 
 commit-requires : tie.Need-commit-requires
-commit-requires c κs = (decided (writing (c .before .before .before .before .before .before .before .before .before .before .before .before)), accepting (c .before))
+commit-requires c κs = (
+  decided (writing
+      (c .before .before .before .before .before .before .before .before .before .before .before .before)),
+  accepting (c .before),
+)
 
 answer-requires-3 : tie.Need-answer-requires-3
 answer-requires-3 c κs = search needs
@@ -89,13 +119,21 @@ same-length-6 c = search needs
 
 returns-4 : tie.Need-returns-4
 returns-4 c =
-    done (writing (c .before .before .before .before .before .before .before .before .before .before .before .before .before .before .before .before)) (lent-is (c .before .before .before .before .before .before .before .before .before .before .before .before .before .before .before .before .before .before .before .before .before .pre .0) (c .before .before .before .before .before .before .before .before .before .before .before .before .data-end .ensures)) (accepting (c .before .before .before .before .before)) (c .answer3 .ensures) (c .before .before .before .commit .ensures) (c .before .before .before .before .before .before .before .before .write-reply .ensures)
+    done (writing
+    (c .before .before .before .before .before .before .before .before .before .before .before .before .before
+    .before .before .before))
+    (lent-is (c .before .before .before .before .before .before .before .before .before .before .before .before
+    .before .before .before .before .before .before .before .before .before .pre .0)
+    (c .before .before .before .before .before .before .before .before .before .before .before .before .data-end
+    .ensures)) (accepting (c .before .before .before .before .before)) (c .answer3 .ensures)
+    (c .before .before .before .commit .ensures)
+    (c .before .before .before .before .before .before .before .before .write-reply .ensures)
 
 pub test-and-write-spec : {M : Type 1} → statement M
 test-and-write-spec =
     tie.close
     (tie.spec
-    judge-requires
+    verdict-of-requires
     enabler-differs-requires
     same-length
     returns
