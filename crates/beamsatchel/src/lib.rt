@@ -1,7 +1,7 @@
 // What C and Rust call: numbers and byte slices in, structs of numbers out. Nothing is asked of the caller.
 ghost use mathlib.Core.Path.{_≡_};
 ghost use Rattle.rules.specs.Outcomes.{createAnswer, createdContainer, answered, containerAfter, replyAfter};
-ghost use Rattle.shares.specs.Checked.{checkedOf, checkedContainer};
+ghost use Rattle.shares.specs.Share.{checkedOf, checkedContainer};
 use rules::Answer;
 use shares::share::Checked;
 

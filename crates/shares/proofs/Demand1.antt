@@ -14,13 +14,13 @@ use Rattle.container.proofs.DataLaws.{lends, lent-number}
 use Rattle.shares.specs.Bounds.{partOf}
 use Rattle.shares.specs.Header.{keyAt, endAt}
 use Rattle.shares.specs.Rows.{headRows, bodyRows, shareOutcome}
-use Rattle.shares.specs.Checked.{boundsOf, refused, checkedOf, checkedContainer, sharePart, partAt}
-use Rattle.shares.specs.Checked.{containerPart, containerPartAt}
+use Rattle.shares.specs.Share.{boundsOf, refused, checkedOf, checkedContainer, sharePart, partAt}
+use Rattle.shares.specs.Share.{containerPart, containerPartAt}
 use Rattle.shares.specs.Facts.{Inside}
 use Rattle.shares.specs.Claims.{shareNumbers, containerNumbers, InTurn, Demand1Share, Demand1Container}
-use Rattle.shares.proofs.CheckedLaws.{checked-number, checked-refused, checked-bounds, none-empty}
-use Rattle.shares.proofs.CheckedLaws.{bounds-inside, first-bound, last-bound, bounds-moved, container-refused}
-use Rattle.shares.proofs.CheckedLaws.{container-zero, container-none, container-shares}
+use Rattle.shares.proofs.ShareLaws.{checked-number, checked-refused, checked-bounds, none-empty}
+use Rattle.shares.proofs.ShareLaws.{bounds-inside, first-bound, last-bound, bounds-moved, container-refused}
+use Rattle.shares.proofs.ShareLaws.{container-zero, container-none, container-shares}
 use Rattle.shares.proofs.BoundLaws.{risen, part-length, part-on, part-within}
 use Rattle.shares.proofs.RowLaws.{order-facts, outcome-ordered}
 use Rattle.octets.specs.Lists.{anyOf}
@@ -102,9 +102,9 @@ share-refused : (s : List ℕ) → (shareOutcome s ≡ 0 → ⊥) → (i : ℕ) 
 unfolding sharePart partAt checkedOf
 share-refused s n i h = rw (← checked-refused 0 _ s refl n) (none-empty (shareOutcome s) i s h)
 
-pub demand1-share : (s : List ℕ) → Demand1Share s
+pub demand-1-share : (s : List ℕ) → Demand1Share s
 unfolding checkedOf
-demand1-share s =
+demand-1-share s =
     let n = checked-number 0 s in
     record {
       number = rw n (outcome-occurs s);
@@ -155,8 +155,8 @@ module _ (c : List ℕ) (z : checkedContainer c .number ≡ 0) (i : ℕ) (h : i 
       (sym (part-within a (e - a) (lentOf c .to - f) (drop f c) w)
       ∙ ap (λ (l : List ℕ). take (e - a) (drop a l)) (lends c .bytes))
 
-pub demand1-container : (c : List ℕ) → Demand1Container c
-demand1-container c =
+pub demand-1-container : (c : List ℕ) → Demand1Container c
+demand-1-container c =
     record {
       number = container-occurs c;
       refused = container-refuses c;

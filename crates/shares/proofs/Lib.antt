@@ -2,5 +2,5 @@
 pub mod BoundLaws
 pub mod NodeLaws
 pub mod RowLaws
-pub mod CheckedLaws
+pub mod ShareLaws
 pub mod Demand1

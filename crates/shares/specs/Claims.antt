@@ -1,14 +1,13 @@
 -- What is claimed of the share checks (demand 1), and what two of the definitions mean. Proved in proofs/.
 use mathlib.Core.Path.{_≡_}
 use Prim.Native.Nat.{ℕ, suc, _+_, _%_, _≤_, _<_}
-use mathlib.Core.Bool.{true}
 use mathlib.Core.List.{List, [], _∷_, _++_}
 use lib.ListN.{length, take}
 use Rattle.container.specs.Data.{lentOf, dataLent}
 use Rattle.shares.specs.Header.{keyAt}
 use Rattle.shares.specs.Nodes.{depth, power}
 use Rattle.shares.specs.Rows.{leastMultiple}
-use Rattle.shares.specs.Checked.{checkedOf, sharePart, partAt, checkedContainer, containerPart, containerPartAt}
+use Rattle.shares.specs.Share.{checkedOf, sharePart, partAt, checkedContainer, containerPart, containerPartAt}
 use Rattle.octets.specs.Lists.{Among}
 
 -- The numbers of the table for a share, and for a container that holds one.

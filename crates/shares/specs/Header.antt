@@ -1,5 +1,5 @@
 -- The header of an SDMF share (document 01, "The SDMF share"), field by field.
-use Prim.Native.Nat.{ℕ, _+_}
+use Prim.Native.Nat.{ℕ}
 use mathlib.Core.List.{List}
 use lib.ListN.{getD}
 use Rattle.octets.specs.Numbers.{numberAt}

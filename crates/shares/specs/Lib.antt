@@ -3,6 +3,6 @@ pub mod Bounds
 pub mod Header
 pub mod Nodes
 pub mod Rows
-pub mod Checked
+pub mod Share
 pub mod Facts
 pub mod Claims

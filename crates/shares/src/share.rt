@@ -6,8 +6,8 @@ ghost use Prim.Native.Nat.{_+_, _<_};
 ghost use lib.ListN.{length, getD};
 ghost use Rattle.container.specs.Data.{beyond};
 ghost use Rattle.shares.specs.Bounds.{partOf};
-ghost use Rattle.shares.specs.Checked.{refused, boundsAt, checkedAt, checkedOf, sharePart, partAt};
-ghost use Rattle.shares.specs.Checked.{checkedContainer, containerPart, containerPartAt};
+ghost use Rattle.shares.specs.Share.{refused, boundsAt, checkedAt, checkedOf, sharePart, partAt};
+ghost use Rattle.shares.specs.Share.{checkedContainer, containerPart, containerPartAt};
 ghost use Rattle.shares.specs.Facts.{OrderedOffsets, Fits64, Inside};
 
 // The outcome's number, and the boundaries of the six parts (all 0 on a refusal).

@@ -1,5 +1,5 @@
 -- The boundaries as they were read; offsets in order are at most the length, so no sum wraps.
-use Rattle.shares.specs.Checked.{boundsOf, boundsAt}
+use Rattle.shares.specs.Share.{boundsOf, boundsAt}
 use borrow.Author.Needs.{needs}
 use Rattle.shares.proofs.share.bounds_at.Statement.{statement}
 use Rattle.shares.proofs.share.bounds_at.Tie as tie

@@ -1,5 +1,5 @@
 -- A bare share begins at byte 0.
-use Rattle.shares.specs.Checked.{checkedOf}
+use Rattle.shares.specs.Share.{checkedOf}
 use borrow.Author.Needs.{needs}
 use Rattle.shares.proofs.share.check.Statement.{statement}
 use Rattle.shares.proofs.share.check.Tie as tie

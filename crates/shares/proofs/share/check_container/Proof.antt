@@ -2,7 +2,7 @@
 use mathlib.Core.Path.{_∙_}
 use native.Mathlib.Omega.{arith}
 use Rattle.container.proofs.DataLaws.{lent-inside}
-use Rattle.shares.proofs.CheckedLaws.{lent-refused, lent-checked}
+use Rattle.shares.proofs.ShareLaws.{lent-refused, lent-checked}
 use borrow.Author.Needs.{needs}
 use Rattle.shares.proofs.share.check_container.Statement.{statement}
 use Rattle.shares.proofs.share.check_container.Tie as tie

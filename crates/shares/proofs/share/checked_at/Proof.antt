@@ -1,7 +1,7 @@
 -- A number other than 0 refuses; on 0 the offsets are in order, so the boundaries may be formed.
 use mathlib.Core.Path.{sym, _∙_}
 use Rattle.shares.proofs.RowLaws.{order-facts, outcome-ordered}
-use Rattle.shares.proofs.CheckedLaws.{checked-refused, checked-zero}
+use Rattle.shares.proofs.ShareLaws.{checked-refused, checked-zero}
 use borrow.Author.Needs.{needs}
 use Rattle.shares.proofs.share.checked_at.Statement.{statement}
 use Rattle.shares.proofs.share.checked_at.Tie as tie

@@ -1,7 +1,7 @@
 -- As `part`, with the boundaries counted from the container's first byte.
 use mathlib.Core.Path.{_∙_}
-use Rattle.shares.specs.Checked.{containerPart, containerPartAt}
-use Rattle.shares.proofs.CheckedLaws.{container-inside}
+use Rattle.shares.specs.Share.{containerPart, containerPartAt}
+use Rattle.shares.proofs.ShareLaws.{container-inside}
 use borrow.Author.Needs.{needs}
 use Rattle.shares.proofs.share.container_part.Statement.{statement}
 use Rattle.shares.proofs.share.container_part.Tie as tie

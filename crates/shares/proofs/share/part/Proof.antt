@@ -1,7 +1,7 @@
 -- The boundaries that the checker tells lie inside the slice.
 use mathlib.Core.Path.{_∙_}
-use Rattle.shares.specs.Checked.{sharePart, partAt}
-use Rattle.shares.proofs.CheckedLaws.{share-inside}
+use Rattle.shares.specs.Share.{sharePart, partAt}
+use Rattle.shares.proofs.ShareLaws.{share-inside}
 use borrow.Author.Needs.{needs}
 use Rattle.shares.proofs.share.part.Statement.{statement}
 use Rattle.shares.proofs.share.part.Tie as tie

@@ -15,7 +15,7 @@ use Rattle.container.proofs.DataLaws.{lends, lent-bytes}
 use Rattle.shares.specs.Bounds.{partOf}
 use Rattle.shares.specs.Header.{keyAt}
 use Rattle.shares.specs.Rows.{offsets, ordered, shareOutcome}
-use Rattle.shares.specs.Checked.{boundsOf, checkedOf, checkedContainer, refused, boundsAt, checkedAt}
+use Rattle.shares.specs.Share.{boundsOf, checkedOf, checkedContainer, refused, boundsAt, checkedAt}
 use Rattle.shares.specs.Facts.{Inside}
 use Rattle.shares.proofs.BoundLaws.{places, lastOf, in-order-parts}
 use Rattle.shares.proofs.RowLaws.{order-facts, outcome-ordered}
