@@ -25,8 +25,8 @@ replying : (c : tie.Else2) → replies (c .before .before .before .verdict-of .r
 replying c = sym (c .before .reports .ensures) ∙ not-false _ (c .if2 .left)
 
 accepting : (c : tie.Else3)
-    → c .before .before .before .before .before .before .before .before .before .before .before .verdict-of .result .number
-    ≡ 0
+    → c .before .before .before .before .before .before .before .before .before .before .before .verdict-of
+    .result .number ≡ 0
 accepting c =
     accepted (writing (c .before .before .before .before .before .before .before .before .before .before .before))
     (replying (c .before .before .before .before .before .before .before .before)) (c .if3 .left)
