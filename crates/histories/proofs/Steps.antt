@@ -64,7 +64,7 @@ unfoldable pub leaseSide : Parts → Parts
 leaseSide p = record { room = 0; node = p .node; enabler = []; bytes = []; leases = p .leases }
 
 -- by the first byte
-lease-kind : (x : Call) (k : ℕ) → kindOf (x .request) ≡ k → isLease x ≡ (leb 2 k && leb k 4)
+pub lease-kind : (x : Call) (k : ℕ) → kindOf (x .request) ≡ k → isLease x ≡ (leb 2 k && leb k 4)
 unfolding isLease
 lease-kind x k e = rw e
 
@@ -203,7 +203,7 @@ leaves-encode x p v = rw (outcome-encode p (x .request) (length (x .space)) v, p
     go true = refl
     go false = refl
 
-valid-after : (p : Parts) (r : Option Request) (n : ℕ) → Valid p → ProperOption r → eqb (firstRow (requestRows p r n)) 0
+pub valid-after : (p : Parts) (r : Option Request) (n : ℕ) → Valid p → ProperOption r → eqb (firstRow (requestRows p r n)) 0
     ≡ true → Valid (afterOf p r)
 unfolding requestRows afterOf maybe
 valid-after p none n v q e = v

@@ -15,7 +15,7 @@ use Rattle.format.specs.Container.{wellFormed}
 use Rattle.format.specs.Layout.{enablerOf, dataOf}
 use Rattle.format.specs.Parts.{Parts, partsOf}
 use Rattle.octets.specs.Lists.{Each, isSome, every, maybe}
-use Rattle.octets.proofs.ListLaws.{both}
+use Rattle.octets.proofs.ListLaws.{both, each-map, every-each, each-every}
 use Rattle.format.proofs.RoundTrip.{parts-encode}
 use Rattle.rules.specs.Requests.{Test, Write, testWrite, kindOf, testWriteOf, requestOf}
 use Rattle.rules.specs.Testing.{resolve, resolves, holds}
@@ -30,53 +30,38 @@ use Rattle.rules.proofs.OutcomeLaws.{outcome-formed, answer-number}
 use Rattle.rules.proofs.ReplyLaws.{done-replies}
 use Rattle.rules.proofs.Demand1.{replied-formed, done-valid, done-container, tests-reply}
 
--- ---- tests over a list, and what holds of each
-every-each : {A : Type 0} (test : A → Bool) (xs : List A) → every test xs ≡ true → Each (λ x. test x ≡ true) xs
-unfolding every
-every-each test [] e = tt
-every-each test (x ∷ xs) e = let b = both (test x) (every test xs) e in (b .0, every-each test xs (b .1))
-
-each-every : {A : Type 0} (test : A → Bool) (xs : List A) → Each (λ x. test x ≡ true) xs → every test xs ≡ true
-unfolding every
-each-every test [] e = refl
-each-every test (x ∷ xs) e = rw (e .0) (each-every test xs (e .1))
-
-each-map : {A : Type 0} (P Q : A → Type 0) → ((x : A) → P x → Q x) → (xs : List A) → Each P xs → Each Q xs
-each-map P Q f [] e = tt
-each-map P Q f (x ∷ xs) e = (f x (e .0), each-map P Q f xs (e .1))
-
 -- an offset resolves exactly when it is not negative
-resolves-not : (o : ℤ) (n : ℕ) → resolves o n ≡ true → NotNegative o
+pub resolves-not : (o : ℤ) (n : ℕ) → resolves o n ≡ true → NotNegative o
 unfolding resolves resolve isSome
 resolves-not (pos k) n e = tt
 resolves-not (negsuc k) n e = absurd (false≢true e)
 
-not-resolves : (o : ℤ) (n : ℕ) → NotNegative o → resolves o n ≡ true
+pub not-resolves : (o : ℤ) (n : ℕ) → NotNegative o → resolves o n ≡ true
 unfolding resolves resolve isSome
 not-resolves (pos k) n e = refl
 not-resolves (negsuc k) n e = absurd e
 
-tests-not : (ts : List Test) (n : ℕ) → every (λ t. resolves (t .offset) n) ts ≡ true →
+pub tests-not : (ts : List Test) (n : ℕ) → every (λ t. resolves (t .offset) n) ts ≡ true →
     Each (λ t. NotNegative (t .offset)) ts
 tests-not ts n e =
     each-map (λ t. resolves (t .offset) n ≡ true) (λ t. NotNegative (t .offset)) (λ t. resolves-not (t .offset) n) ts
     (every-each (λ t. resolves (t .offset) n) ts e)
 
-not-tests : (ts : List Test) (n : ℕ) → Each (λ t. NotNegative (t .offset)) ts →
+pub not-tests : (ts : List Test) (n : ℕ) → Each (λ t. NotNegative (t .offset)) ts →
     every (λ t. resolves (t .offset) n) ts ≡ true
 not-tests ts n e =
     each-every (λ t. resolves (t .offset) n) ts
     (each-map (λ t. NotNegative (t .offset)) (λ t. resolves (t .offset) n ≡ true) (λ t. not-resolves (t .offset) n)
     ts e)
 
-writes-not : (ws : List Write) (n : ℕ) → writesResolve ws n ≡ true → Each (λ w. NotNegative (w .offset)) ws
+pub writes-not : (ws : List Write) (n : ℕ) → writesResolve ws n ≡ true → Each (λ w. NotNegative (w .offset)) ws
 unfolding writesResolve
 writes-not [] n e = tt
 writes-not (w ∷ ws) n e =
     let b = both (resolves (w .offset) n) _ e in
     (resolves-not (w .offset) n (b .0), writes-not ws _ (b .1))
 
-not-writes : (ws : List Write) (n : ℕ) → Each (λ w. NotNegative (w .offset)) ws → writesResolve ws n ≡ true
+pub not-writes : (ws : List Write) (n : ℕ) → Each (λ w. NotNegative (w .offset)) ws → writesResolve ws n ≡ true
 unfolding writesResolve
 not-writes [] n e = refl
 not-writes (w ∷ ws) n e = rw (not-resolves (w .offset) n (e .0)) (not-writes ws _ (e .1))
