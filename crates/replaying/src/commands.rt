@@ -10,7 +10,8 @@ ghost use mathlib.Core.Path.{_≡_};
 ghost use Prim.Native.Nat.{_≤_, _<_};
 ghost use lib.ListN.{length};
 ghost use Rattle.octets.specs.Strings.{same};
-ghost use Rattle.replaying.specs.Commands.{wordOf, commandHere, commandOf, followed, endsAt, argumentAt};
+ghost use Rattle.replaying.specs.Commands.{pickWord, wordOf, commandHere, commandOf, followed};
+ghost use Rattle.replaying.specs.Commands.{endsAt, argumentAt};
 
 pub enum Word {
     Buffer,
@@ -46,37 +47,31 @@ fn is(w: &[u8], name: &[u8]) -> bool
     false
 }
 
+// One word or the other.
+fn pick(is: bool, word: Word, other: Word) -> Word
+    ensures { λ r. ⌜ r ≡ pickWord is word other ⌝ }
+{
+    if is {
+        return word;
+    }
+    other
+}
+
+// The list of the words, from the last to the first.
 fn word_of(w: &[u8]) -> Word
     ensures { λ r. ⌜ r ≡ wordOf (now (w .entry)) ⌝ }
 {
-    if is(w, b"buffer") {
-        return Word::Buffer;
-    }
-    if is(w, b"load") {
-        return Word::Load;
-    }
-    if is(w, b"node") {
-        return Word::Node;
-    }
-    if is(w, b"enabler") {
-        return Word::Enabler;
-    }
-    if is(w, b"create") {
-        return Word::Create;
-    }
-    if is(w, b"bytes") {
-        return Word::Bytes;
-    }
-    if is(w, b"apply") {
-        return Word::Apply;
-    }
-    if is(w, b"expect") {
-        return Word::Expect;
-    }
-    if is(w, b"say") {
-        return Word::Say;
-    }
-    Word::Unknown
+    let mut word = Word::Unknown;
+    word = pick(is(w, b"say"), Word::Say, word);
+    word = pick(is(w, b"expect"), Word::Expect, word);
+    word = pick(is(w, b"apply"), Word::Apply, word);
+    word = pick(is(w, b"bytes"), Word::Bytes, word);
+    word = pick(is(w, b"create"), Word::Create, word);
+    word = pick(is(w, b"enabler"), Word::Enabler, word);
+    word = pick(is(w, b"node"), Word::Node, word);
+    word = pick(is(w, b"load"), Word::Load, word);
+    word = pick(is(w, b"buffer"), Word::Buffer, word);
+    word
 }
 
 // The command that begins at `at`, where a byte stands that is no space.

@@ -1,295 +1,53 @@
--- Each return has the tests before it.
-use mathlib.Core.Path.{sym, _∙_}
+-- What each call answers, the last call first.
+use mathlib.Core.Path.{refl}
 use Rattle.replaying.specs.Commands.{wordOf}
-use borrow.Author.Needs.{needs}
 use Rattle.replaying.proofs.commands.word_of.Statement.{statement}
 use Rattle.replaying.proofs.commands.word_of.Tie as tie
 
-slice-aggregate-is : tie.Need-slice-aggregate-is
-slice-aggregate-is c = search needs
-
-is-requires : tie.Need-is-requires
-is-requires c κs = search needs
-
 returns : tie.Need-returns
 unfolding wordOf
-returns c = rw (sym (c .before .is .ensures) ∙ c .if1 .taken)
-
-slice-aggregate-is-2 : tie.Need-slice-aggregate-is-2
-slice-aggregate-is-2 c = search needs
-
-is-requires-2 : tie.Need-is-requires-2
-is-requires-2 c κs = search needs
-
-returns-2 : tie.Need-returns-2
-unfolding wordOf
-returns-2 c = rw (
-  sym (c .before .before .before .before .is .ensures) ∙ c .before .before .before .if1 .left,
-  sym (c .before .is2 .ensures) ∙ c .if2 .taken,
-)
-
-slice-aggregate-is-3 : tie.Need-slice-aggregate-is-3
-slice-aggregate-is-3 c = search needs
-
-is-requires-3 : tie.Need-is-requires-3
-is-requires-3 c κs = search needs
-
-returns-3 : tie.Need-returns-3
-unfolding wordOf
-returns-3 c = rw (
-  sym (c .before .before .before .before .before .before .before .is .ensures)
-      ∙ c .before .before .before .before .before .before .if1 .left,
-  sym (c .before .before .before .before .is2 .ensures) ∙ c .before .before .before .if2 .left,
-  sym (c .before .is3 .ensures) ∙ c .if3 .taken,
-)
-
-slice-aggregate-is-4 : tie.Need-slice-aggregate-is-4
-slice-aggregate-is-4 c = search needs
-
-is-requires-4 : tie.Need-is-requires-4
-is-requires-4 c κs = search needs
-
-returns-4 : tie.Need-returns-4
-unfolding wordOf
-returns-4 c = rw (
-  sym (c .before .before .before .before .before .before .before .before .before .before .is .ensures)
-      ∙ c .before .before .before .before .before .before .before .before .before .if1 .left,
-  sym (c .before .before .before .before .before .before .before .is2 .ensures)
-      ∙ c .before .before .before .before .before .before .if2 .left,
-  sym (c .before .before .before .before .is3 .ensures) ∙ c .before .before .before .if3 .left,
-  sym (c .before .is4 .ensures) ∙ c .if4 .taken,
-)
-
-slice-aggregate-is-5 : tie.Need-slice-aggregate-is-5
-slice-aggregate-is-5 c = search needs
-
-is-requires-5 : tie.Need-is-requires-5
-is-requires-5 c κs = search needs
-
-returns-5 : tie.Need-returns-5
-unfolding wordOf
-returns-5 c =
+returns c =
+    let c8 = c .before .before .before in
+    let c7 = c8 .before .before .before in
+    let c6 = c7 .before .before .before in
+    let c5 = c6 .before .before .before in
+    let c4 = c5 .before .before .before in
+    let c3 = c4 .before .before .before in
+    let c2 = c3 .before .before .before in
+    let c1 = c2 .before .before .before in
     rw (
-      sym (c .before .before .before .before .before .before .before .before .before .before .before .before .before
-          .is .ensures)
-          ∙ c .before .before .before .before .before .before .before .before .before .before .before .before
-          .if1 .left,
-      sym (c .before .before .before .before .before .before .before .before .before .before .is2 .ensures)
-          ∙ c .before .before .before .before .before .before .before .before .before .if2 .left,
-      sym (c .before .before .before .before .before .before .before .is3 .ensures)
-          ∙ c .before .before .before .before .before .before .if3 .left,
-      sym (c .before .before .before .before .is4 .ensures) ∙ c .before .before .before .if4 .left,
-      sym (c .before .is5 .ensures) ∙ c .if5 .taken,
+      c .pick9 .ensures,
+      c .before .is9 .ensures,
+      c8 .pick8 .ensures,
+      c8 .before .is8 .ensures,
+      c7 .pick7 .ensures,
+      c7 .before .is7 .ensures,
+      c6 .pick6 .ensures,
+      c6 .before .is6 .ensures,
+      c5 .pick5 .ensures,
+      c5 .before .is5 .ensures,
+      c4 .pick4 .ensures,
+      c4 .before .is4 .ensures,
+      c3 .pick3 .ensures,
+      c3 .before .is3 .ensures,
+      c2 .pick2 .ensures,
+      c2 .before .is2 .ensures,
+      c1 .pick .ensures,
+      c1 .before .is .ensures,
     )
 
-slice-aggregate-is-6 : tie.Need-slice-aggregate-is-6
-slice-aggregate-is-6 c = search needs
-
-is-requires-6 : tie.Need-is-requires-6
-is-requires-6 c κs = search needs
-
-returns-6 : tie.Need-returns-6
-unfolding wordOf
-returns-6 c =
-    rw (
-      sym (c .before .before .before .before .before .before .before .before .before .before .before .before .before
-          .before .before .before .is .ensures)
-          ∙ c .before .before .before .before .before .before .before .before .before .before .before .before
-          .before .before
-          .before .if1 .left,
-      sym (c .before .before .before .before .before .before .before .before .before .before .before .before
-          .before .is2
-          .ensures)
-          ∙ c .before .before .before .before .before .before .before .before .before .before .before .before
-          .if2 .left,
-      sym (c .before .before .before .before .before .before .before .before .before .before .is3 .ensures)
-          ∙ c .before .before .before .before .before .before .before .before .before .if3 .left,
-      sym (c .before .before .before .before .before .before .before .is4 .ensures)
-          ∙ c .before .before .before .before .before .before .if4 .left,
-      sym (c .before .before .before .before .is5 .ensures) ∙ c .before .before .before .if5 .left,
-      sym (c .before .is6 .ensures) ∙ c .if6 .taken,
-    )
-
-slice-aggregate-is-7 : tie.Need-slice-aggregate-is-7
-slice-aggregate-is-7 c = search needs
-
-is-requires-7 : tie.Need-is-requires-7
-is-requires-7 c κs = search needs
-
-returns-7 : tie.Need-returns-7
-unfolding wordOf
-returns-7 c =
-    rw (
-      sym (c .before .before .before .before .before .before .before .before .before .before .before .before .before
-          .before .before .before .before .before .before .is .ensures)
-          ∙ c .before .before .before .before .before .before .before .before .before .before .before .before
-          .before .before
-          .before .before .before .before .if1 .left,
-      sym (c .before .before .before .before .before .before .before .before .before .before .before .before .before
-          .before .before .before .is2 .ensures)
-          ∙ c .before .before .before .before .before .before .before .before .before .before .before .before
-          .before .before
-          .before .if2 .left,
-      sym (c .before .before .before .before .before .before .before .before .before .before .before .before
-          .before .is3
-          .ensures)
-          ∙ c .before .before .before .before .before .before .before .before .before .before .before .before
-          .if3 .left,
-      sym (c .before .before .before .before .before .before .before .before .before .before .is4 .ensures)
-          ∙ c .before .before .before .before .before .before .before .before .before .if4 .left,
-      sym (c .before .before .before .before .before .before .before .is5 .ensures)
-          ∙ c .before .before .before .before .before .before .if5 .left,
-      sym (c .before .before .before .before .is6 .ensures) ∙ c .before .before .before .if6 .left,
-      sym (c .before .is7 .ensures) ∙ c .if7 .taken,
-    )
-
-slice-aggregate-is-8 : tie.Need-slice-aggregate-is-8
-slice-aggregate-is-8 c = search needs
-
-is-requires-8 : tie.Need-is-requires-8
-is-requires-8 c κs = search needs
-
-returns-8 : tie.Need-returns-8
-unfolding wordOf
-returns-8 c =
-    rw (
-      sym (c .before .before .before .before .before .before .before .before .before .before .before .before .before
-          .before .before .before .before .before .before .before .before .before .is .ensures)
-          ∙ c .before .before .before .before .before .before .before .before .before .before .before .before
-          .before .before
-          .before .before .before .before .before .before .before .if1 .left,
-      sym (c .before .before .before .before .before .before .before .before .before .before .before .before .before
-          .before .before .before .before .before .before .is2 .ensures)
-          ∙ c .before .before .before .before .before .before .before .before .before .before .before .before
-          .before .before
-          .before .before .before .before .if2 .left,
-      sym (c .before .before .before .before .before .before .before .before .before .before .before .before .before
-          .before .before .before .is3 .ensures)
-          ∙ c .before .before .before .before .before .before .before .before .before .before .before .before
-          .before .before
-          .before .if3 .left,
-      sym (c .before .before .before .before .before .before .before .before .before .before .before .before
-          .before .is4
-          .ensures)
-          ∙ c .before .before .before .before .before .before .before .before .before .before .before .before
-          .if4 .left,
-      sym (c .before .before .before .before .before .before .before .before .before .before .is5 .ensures)
-          ∙ c .before .before .before .before .before .before .before .before .before .if5 .left,
-      sym (c .before .before .before .before .before .before .before .is6 .ensures)
-          ∙ c .before .before .before .before .before .before .if6 .left,
-      sym (c .before .before .before .before .is7 .ensures) ∙ c .before .before .before .if7 .left,
-      sym (c .before .is8 .ensures) ∙ c .if8 .taken,
-    )
-
-slice-aggregate-is-9 : tie.Need-slice-aggregate-is-9
-slice-aggregate-is-9 c = search needs
-
-is-requires-9 : tie.Need-is-requires-9
-is-requires-9 c κs = search needs
-
-returns-9 : tie.Need-returns-9
-unfolding wordOf
-returns-9 c =
-    rw (
-      sym (c .before .before .before .before .before .before .before .before .before .before .before .before .before
-          .before .before .before .before .before .before .before .before .before .before .before .before .is .ensures)
-          ∙ c .before .before .before .before .before .before .before .before .before .before .before .before
-          .before .before
-          .before .before .before .before .before .before .before .before .before .before .if1 .left,
-      sym (c .before .before .before .before .before .before .before .before .before .before .before .before .before
-          .before .before .before .before .before .before .before .before .before .is2 .ensures)
-          ∙ c .before .before .before .before .before .before .before .before .before .before .before .before
-          .before .before
-          .before .before .before .before .before .before .before .if2 .left,
-      sym (c .before .before .before .before .before .before .before .before .before .before .before .before .before
-          .before .before .before .before .before .before .is3 .ensures)
-          ∙ c .before .before .before .before .before .before .before .before .before .before .before .before
-          .before .before
-          .before .before .before .before .if3 .left,
-      sym (c .before .before .before .before .before .before .before .before .before .before .before .before .before
-          .before .before .before .is4 .ensures)
-          ∙ c .before .before .before .before .before .before .before .before .before .before .before .before
-          .before .before
-          .before .if4 .left,
-      sym (c .before .before .before .before .before .before .before .before .before .before .before .before
-          .before .is5
-          .ensures)
-          ∙ c .before .before .before .before .before .before .before .before .before .before .before .before
-          .if5 .left,
-      sym (c .before .before .before .before .before .before .before .before .before .before .is6 .ensures)
-          ∙ c .before .before .before .before .before .before .before .before .before .if6 .left,
-      sym (c .before .before .before .before .before .before .before .is7 .ensures)
-          ∙ c .before .before .before .before .before .before .if7 .left,
-      sym (c .before .before .before .before .is8 .ensures) ∙ c .before .before .before .if8 .left,
-      sym (c .before .is9 .ensures) ∙ c .if9 .taken,
-    )
-
-returns-10 : tie.Need-returns-10
-unfolding wordOf
-returns-10 c =
-    rw (
-      sym (c .before .before .before .before .before .before .before .before .before .before .before .before .before
-          .before .before .before .before .before .before .before .before .before .before .before .before .is .ensures)
-          ∙ c .before .before .before .before .before .before .before .before .before .before .before .before
-          .before .before
-          .before .before .before .before .before .before .before .before .before .before .if1 .left,
-      sym (c .before .before .before .before .before .before .before .before .before .before .before .before .before
-          .before .before .before .before .before .before .before .before .before .is2 .ensures)
-          ∙ c .before .before .before .before .before .before .before .before .before .before .before .before
-          .before .before
-          .before .before .before .before .before .before .before .if2 .left,
-      sym (c .before .before .before .before .before .before .before .before .before .before .before .before .before
-          .before .before .before .before .before .before .is3 .ensures)
-          ∙ c .before .before .before .before .before .before .before .before .before .before .before .before
-          .before .before
-          .before .before .before .before .if3 .left,
-      sym (c .before .before .before .before .before .before .before .before .before .before .before .before .before
-          .before .before .before .is4 .ensures)
-          ∙ c .before .before .before .before .before .before .before .before .before .before .before .before
-          .before .before
-          .before .if4 .left,
-      sym (c .before .before .before .before .before .before .before .before .before .before .before .before
-          .before .is5
-          .ensures)
-          ∙ c .before .before .before .before .before .before .before .before .before .before .before .before
-          .if5 .left,
-      sym (c .before .before .before .before .before .before .before .before .before .before .is6 .ensures)
-          ∙ c .before .before .before .before .before .before .before .before .before .if6 .left,
-      sym (c .before .before .before .before .before .before .before .is7 .ensures)
-          ∙ c .before .before .before .before .before .before .if7 .left,
-      sym (c .before .before .before .before .is8 .ensures) ∙ c .before .before .before .if8 .left,
-      sym (c .before .is9 .ensures) ∙ c .if9 .left,
-    )
-
+-- Of each call: the length of the name, and that `is` and `pick` require nothing.
 pub word-of-spec : {M : Type 1} → statement M
 word-of-spec =
     tie.close
     (tie.spec
-    slice-aggregate-is
-    is-requires
-    returns
-    slice-aggregate-is-2
-    is-requires-2
-    returns-2
-    slice-aggregate-is-3
-    is-requires-3
-    returns-3
-    slice-aggregate-is-4
-    is-requires-4
-    returns-4
-    slice-aggregate-is-5
-    is-requires-5
-    returns-5
-    slice-aggregate-is-6
-    is-requires-6
-    returns-6
-    slice-aggregate-is-7
-    is-requires-7
-    returns-7
-    slice-aggregate-is-8
-    is-requires-8
-    returns-8
-    slice-aggregate-is-9
-    is-requires-9
-    returns-9
-    returns-10)
+    (λ c. refl) (λ c κs. tt) (λ c κs. tt)
+    (λ c. refl) (λ c κs. tt) (λ c κs. tt)
+    (λ c. refl) (λ c κs. tt) (λ c κs. tt)
+    (λ c. refl) (λ c κs. tt) (λ c κs. tt)
+    (λ c. refl) (λ c κs. tt) (λ c κs. tt)
+    (λ c. refl) (λ c κs. tt) (λ c κs. tt)
+    (λ c. refl) (λ c κs. tt) (λ c κs. tt)
+    (λ c. refl) (λ c κs. tt) (λ c κs. tt)
+    (λ c. refl) (λ c κs. tt) (λ c κs. tt)
+    returns)
