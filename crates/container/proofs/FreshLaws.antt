@@ -5,8 +5,7 @@ use mathlib.Core.List.{List, [], _++_, append-assoc}
 use Prim.Native.Nat.{ℕ, _+_, _-_, _*_, _≤_}
 use native.Mathlib.Omega.{arith}
 use lib.Dec.{eqb}
-use lib.ListN.{length, take, replicate, length-append, length-replicate, replicate-append-replicate}
-use lib.Seq.{take-at, drop-at}
+use lib.ListN.{length, take, replicate, length-append, length-replicate}
 use borrow.Author.Tests.{eq-eqb}
 use Rattle.octets.specs.Moves.{put}
 use Rattle.octets.specs.Numbers.{digits}

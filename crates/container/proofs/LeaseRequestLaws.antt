@@ -3,15 +3,12 @@ use mathlib.Core.Path.{_≡_, refl, _∙_}
 use mathlib.Core.Bool.{Bool, true, false, cond, not, _&&_}
 use mathlib.Core.List.{List, [], _∷_}
 use mathlib.Core.Option.{some}
-use Prim.Native.Nat.{ℕ, _-_}
-use native.Mathlib.Omega.{arith}
-use lib.ListN.{length, take, drop, length-drop}
+use Prim.Native.Nat.{ℕ}
+use lib.ListN.{length}
 use lib.Dec.{eqb, leb, ltb}
-use lib.Seq.{take-all}
-use borrow.Author.Tests.{eqb-true}
 use Rattle.octets.specs.Moves.{put}
 use Rattle.format.specs.Container.{wellFormed}
-use Rattle.format.specs.Layout.{renewalOf}
+use Rattle.format.specs.Layout.{renewalOf, leaseLimit}
 use Rattle.format.specs.Parts.{Parts, partsOf, used}
 use Rattle.rules.specs.Requests.{Request, testWrite, add, renew, cancel, read, requestOf}
 use Rattle.rules.specs.Leasing.{renewedBy, cancelledBy, knows, present}
@@ -53,7 +50,7 @@ two-rows false false = record { no-node = refl; only-done = refl }
 plain : (p : Parts) (q : Request) → LeaseRequest q → Plain (leaseOutcome p q)
 unfolding leaseOutcome rows admitRows findRows roomRows
 plain p (testWrite k ts ws cut) l = absurd l
-plain p (add r) l = two-rows (leb 64 (present (p .leases)) && not (knows (renewedBy (renewalOf r)) (p .leases)))
+plain p (add r) l = two-rows (leb leaseLimit (present (p .leases)) && not (knows (renewedBy (renewalOf r)) (p .leases)))
     (ltb (p .room) (used (after p (add r))))
 plain p (renew t x) l = one-row (not (knows (renewedBy t) (p .leases)))
 plain p (cancel t) l = one-row (not (knows (cancelledBy t) (p .leases)))

@@ -1,6 +1,5 @@
 -- Laws about whole requests, which the proofs of this crate and of those above cite.
 pub mod FreshLaws
-pub mod KnownLaws
 pub mod DataLaws
 pub mod LeaseRequestLaws
 pub mod ReadLaws

@@ -9,7 +9,7 @@ use Rattle.octets.proofs.NumberLaws.{octets-digits}
 use Rattle.octets.proofs.StringLaws.{octets-take, octets-drop, octets-append}
 use Rattle.format.specs.Layout.{magic, nodeAt, enablerAt, leasesAt, dataAt, countAt, nodeOf, enablerOf, sizeOf}
 use Rattle.format.specs.Layout.{dataOf, extrasOf, records, leasesOf, countSize, fixedPlaces, recordSize}
-use Rattle.format.specs.Layout.{nodeSize, secretSize}
+use Rattle.format.specs.Layout.{nodeSize, secretSize, sizeWidth}
 use Rattle.format.specs.Parts.{Parts, extras, used, partsOf, encode}
 use Rattle.octets.specs.Lists.{Each}
 use Rattle.format.specs.Claims.{OctetParts, RoundTrip}
@@ -36,7 +36,7 @@ octets-join (s ∷ ss) h = octets-append s (join ss) (h .0) (octets-join ss (h .
 -- the magic is the 32 digits of a number
 octets-magic : Octets magic
 unfolding digits number numberAfter
-octets-magic = octets-digits 32 (number magic)
+octets-magic = octets-digits nodeAt (number magic)
 
 octets-records : (n p : ℕ) (c : List ℕ) → Octets c → Each Octets (records n p c)
 unfolding records
@@ -61,8 +61,9 @@ octets-encode p o =
     let h : Each Octets rest = (f, (o .bytes, (octets-digits 4 e, (m, tt)))) in
     let z : ℕ = p .room - used p in
     rw encode-flat
-    (octets-onto (magic ∷ p .node ∷ p .enabler ∷ digits 8 s ∷ digits 8 (countAt s) ∷ rest) (replicate z 0)
-    (octets-magic, (o .node, (o .enabler, (octets-digits 8 s, (octets-digits 8 (countAt s), h)))))
+    (octets-onto (magic ∷ p .node ∷ p .enabler ∷ digits sizeWidth s ∷ digits sizeWidth (countAt s) ∷ rest)
+    (replicate z 0)
+    (octets-magic, (o .node, (o .enabler, (octets-digits sizeWidth s, (octets-digits sizeWidth (countAt s), h)))))
     (octets-zeros z))
 
 -- ---- the parts of a container made of bytes

@@ -125,7 +125,7 @@ pub contents-read : (c : List ℕ) (f : Frame) → Framed c f
 unfolding contentsOk
 contents-read c f h =
     let l : List (List ℕ) = records (extrasOf c) (countAt (sizeOf c) + countSize) c in
-    rw (h .size-is, h .extras-is, leases-ok c, extra-leases c)
+    rw (h .is, leases-ok c, extra-leases c)
     (and-assoc (every recordOk (records fixedPlaces leasesAt c)) (every recordOk l)
     (lastHeld l && allZero (drop (usedLength (sizeOf c) (extrasOf c)) c)))
 
@@ -134,16 +134,16 @@ pub record Sized (c : List ℕ) (f : Frame) : Type 0 where
   pub few : f .extras ≤ extraLimit
   pub fits : least + f .size + recordSize * f .extras ≤ length c
 
-fields-sized : (c : List ℕ) (f : Frame) → f .size ≡ sizeOf c → f .extras ≡ extrasOf c → Fields c → Sized c f
-fields-sized c f p q h =
+fields-sized : (c : List ℕ) (f : Frame) → f ≡ frameOf c → Fields c → Sized c f
+fields-sized c f e h =
     let u = used-is (sizeOf c) (extrasOf c) in
-    record { few = omega (arith, h .few); fits = omega (arith, h .fits) }
+    rw e (record { few = omega (arith, h .few); fits = omega (arith, h .fits) })
 
 pub framed-sized : (c : List ℕ) (f : Frame) → Framed c f → Sized c f
-framed-sized c f h = fields-sized c f (h .size-is) (h .extras-is) (fields-facts c (h .agree))
+framed-sized c f h = fields-sized c f (h .is) (fields-facts c (h .agree))
 
 pub known-sized : (c : List ℕ) (f : Frame) → Known c f → Sized c f
-known-sized c f k = fields-sized c f (k .size-is) (k .extras-is) (formed-facts c (k .formed) .fields)
+known-sized c f k = fields-sized c f (k .is) (formed-facts c (k .formed) .fields)
 
 pub known-most : (c : List ℕ) (f : Frame) → Known c f → length c ≤ limit
 known-most c f k = formed-facts c (k .formed) .most
@@ -153,9 +153,7 @@ pub found-agree : (c : List ℕ) (f : Frame) → Agree f ≡ fieldsFound c → F
 found-agree c f p = go (fieldsOk c) refl p
   where
     go : (t : Bool) → fieldsOk c ≡ t → Agree f ≡ cond t (Agree (frameOf c)) Disagree → Framed c f
-    go true h q =
-        let e : f ≡ frameOf c = cc in
-        record { size-is = ap (λ (x : Frame). x .size) e; extras-is = ap (λ (x : Frame). x .extras) e; agree = h }
+    go true h q = record { is = cc; agree = h }
     go false h q = absurd (let z : _≡_ {A = ℕ} 0 1 = cc in omega arith)
 
 pub found-disagree : (c : List ℕ) → Disagree ≡ fieldsFound c → fieldsOk c ≡ false
@@ -186,10 +184,8 @@ module _ (c : List ℕ) (f : Frame) (l : lengthAllowed c ≡ true) (found : Agre
   pub judge-formed : contentsOk c ≡ true → Judges c (Formed f)
   unfolding firstRow
   judge-formed k =
-      let a = found-agree c f found in
       let w : wellFormed c ≡ true = by-contents true k in
-      let e : f ≡ frameOf c = λ i. record { size = a .size-is i; extras = a .extras-is i } in
-      record { number = rw (l, w); frame = rw w (ap some e) }
+      record { number = rw (l, w); frame = rw w (ap some (found-agree c f found .is)) }
 
   pub judge-contents : contentsOk c ≡ false → Judges c Malformed
   judge-contents k = unformed c l (by-contents false k)
@@ -199,9 +195,7 @@ pub judged-formed : (c : List ℕ) (f : Frame) → Judges c (Formed f) → Known
 judged-formed c f j = go (wellFormed c) refl (j .frame)
   where
     go : (w : Bool) → wellFormed c ≡ w → some f ≡ cond w (some (frameOf c)) none → Known c f
-    go true h q =
-        let e : f ≡ frameOf c = cc in
-        record { formed = h; size-is = ap (λ (x : Frame). x .size) e; extras-is = ap (λ (x : Frame). x .extras) e }
+    go true h q = record { is = cc; formed = h }
     go false h q = absurd (let z : _≡_ {A = ℕ} 0 1 = cc in omega arith)
 
 pub judged-malformed : (c : List ℕ) → Judges c Malformed → (lengthAllowed c ≡ true) × (wellFormed c ≡ false)

@@ -1,7 +1,8 @@
 -- Laws of the container: what well-formedness says, the round trip between bytes and parts, what judging a buffer
--- answers, and the view of the bytes that changes go by.
+-- answers and what is then known, and the view of the bytes that changes go by.
 pub mod WellFormed
 pub mod RoundTrip
 pub mod JudgingLaws
+pub mod KnownLaws
 pub mod ViewLaws
 pub mod Claims

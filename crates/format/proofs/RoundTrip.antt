@@ -13,7 +13,8 @@ use Rattle.octets.proofs.NumberLaws.{length-digits, number-digits, digits-numbe
 use Rattle.octets.proofs.StringLaws.{same-eq, same-refl, zeros-are, allZero-replicate, octets-take, octets-drop}
 use Rattle.format.specs.Layout.{magic, least, limit, nodeAt, enablerAt, sizeAt, offsetAt, leasesAt, dataAt}
 use Rattle.format.specs.Layout.{countAt, usedLength, nodeOf, enablerOf, sizeOf, dataOf, extrasOf, records}
-use Rattle.format.specs.Layout.{leasesOf, ownerOf, countSize, fixedPlaces, recordSize, sizeWidth}
+use Rattle.format.specs.Layout.{leasesOf, ownerOf, countSize, fixedPlaces, extraLimit, recordSize, sizeWidth}
+use Rattle.format.specs.Layout.{nodeSize, secretSize}
 use Rattle.format.specs.Container.{held, recordOk, lastHeld, wellFormed}
 use Rattle.format.specs.Parts.{Parts, extras, used, partsOf, encode, noLease, fresh, headOf, frontOf, tailOf}
 use Rattle.format.specs.Claims.{Place, Valid}
@@ -67,14 +68,14 @@ unfolding leasesOf
 leases-sizes c h =
     let u = used-is (sizeOf c) (extrasOf c) in
     let k = count-is (sizeOf c) in
-    each-append _ (records fixedPlaces leasesAt c) _ (records-sizes 4 leasesAt c (omega arith))
+    each-append _ (records fixedPlaces leasesAt c) _ (records-sizes fixedPlaces leasesAt c (omega arith))
     (records-sizes (extrasOf c) (countAt (sizeOf c) + countSize) c (omega arith))
 
 -- ---- from the bytes: the parts are valid
 pub parts-used : (c : List ℕ) → wellFormed c ≡ true → used (partsOf c) ≡ usedLength (sizeOf c) (extrasOf c)
 unfolding used extras partsOf
 parts-used c w =
-    let k : 4 + extrasOf c - 4 ≡ extrasOf c = omega arith in
+    let k : fixedPlaces + extrasOf c - fixedPlaces ≡ extrasOf c = omega arith in
     rw (data-length c w, length-leases c, k)
 
 pub parts-valid : (c : List ℕ) → wellFormed c ≡ true → Valid (partsOf c)
@@ -87,8 +88,8 @@ parts-valid c w =
     record {
       at-least = n;
       at-most = f .most;
-      node-size = length-take-le 20 (drop nodeAt c) (rw length-drop (omega arith));
-      enabler-size = length-take-le 32 (drop enablerAt c) (rw length-drop (omega arith));
+      node-size = length-take-le nodeSize (drop nodeAt c) (rw length-drop (omega arith));
+      enabler-size = length-take-le secretSize (drop enablerAt c) (rw length-drop (omega arith));
       four = omega arith;
       few = omega arith;
       places = ok-places (leasesOf c) (leases-sizes c (h .fits)) (f .contents .records);
@@ -112,11 +113,11 @@ digits-at c n a v h o e =
     sym (digits-number n (take n (drop a c)) (length-take-le n (drop a c) (rw length-drop (omega arith)))
     (octets-take n (drop a c) (octets-drop a c o))) ∙ ap (digits n) e
 
-pub size-field : (c : List ℕ) → numberAt 8 sizeAt c ≡ sizeOf c
+pub size-field : (c : List ℕ) → numberAt sizeWidth sizeAt c ≡ sizeOf c
 unfolding sizeOf
 size-field c = refl
 
-pub extras-field : (c : List ℕ) → numberAt 4 (countAt (sizeOf c)) c ≡ extrasOf c
+pub extras-field : (c : List ℕ) → numberAt countSize (countAt (sizeOf c)) c ≡ extrasOf c
 unfolding extrasOf
 extras-field c = refl
 
@@ -124,11 +125,11 @@ pub data-field : (c : List ℕ) → take (sizeOf c) (drop dataAt c) ≡ dataOf c
 unfolding dataOf
 data-field c = refl
 
-pub node-field : (c : List ℕ) → take 20 (drop nodeAt c) ≡ nodeOf c
+pub node-field : (c : List ℕ) → take nodeSize (drop nodeAt c) ≡ nodeOf c
 unfolding nodeOf
 node-field c = refl
 
-pub enabler-field : (c : List ℕ) → take 32 (drop enablerAt c) ≡ enablerOf c
+pub enabler-field : (c : List ℕ) → take secretSize (drop enablerAt c) ≡ enablerOf c
 unfolding enablerOf
 enabler-field c = refl
 
@@ -147,10 +148,10 @@ pub laid-out : (c : List ℕ) → wellFormed c ≡ true → Octets c
     → c ≡ magic
     ++ (nodeOf c
     ++ (enablerOf c
-    ++ (digits 8 (sizeOf c)
-    ++ (digits 8 (countAt (sizeOf c)) ++ (join (take fixedPlaces (leasesOf c))
+    ++ (digits sizeWidth (sizeOf c)
+    ++ (digits sizeWidth (countAt (sizeOf c)) ++ (join (take fixedPlaces (leasesOf c))
     ++ (dataOf c
-    ++ (digits 4 (extrasOf c) ++ (join (drop fixedPlaces (leasesOf c))
+    ++ (digits countSize (extrasOf c) ++ (join (drop fixedPlaces (leasesOf c))
     ++ replicate (length c - usedLength (sizeOf c) (extrasOf c)) 0))))))))
 laid-out c w o =
     let s : ℕ = sizeOf c in
@@ -162,16 +163,17 @@ laid-out c w o =
     let z9 = rest-field c (usedLength s e) (f .contents .zeros) in
     let z8 = field-then c (countAt s + countSize) (recordSize * e) (usedLength s e) _ _ (omega arith)
     (extra-field c) z9 in
-    let z7 = field-then c (countAt s) 4 (countAt s + countSize) _ _ refl (digits-at c 4 (countAt s) e (omega arith) o
-    (extras-field c)) z8 in
+    let z7 = field-then c (countAt s) countSize (countAt s + countSize) _ _ refl
+    (digits-at c countSize (countAt s) e (omega arith) o (extras-field c)) z8 in
     let z6 = field-then c dataAt s (countAt s) _ _ (sym k) (data-field c) z7 in
     let z5 = field-then c leasesAt (fixedPlaces * recordSize) dataAt _ _ refl (four-field c) z6 in
-    let z4 = field-then c offsetAt 8 leasesAt _ _ refl (digits-at c 8 offsetAt (countAt s) (omega arith) o
-    (h .offset)) z5 in
-    let z3 = field-then c sizeAt 8 offsetAt _ _ refl (digits-at c 8 sizeAt s (omega arith) o (size-field c)) z4 in
-    let z2 = field-then c enablerAt 32 sizeAt _ _ refl (enabler-field c) z3 in
-    let z1 = field-then c nodeAt 20 enablerAt _ _ refl (node-field c) z2 in
-    field-then c 0 32 nodeAt _ _ refl (same-eq (take 32 c) magic (h .magical)) z1
+    let z4 = field-then c offsetAt sizeWidth leasesAt _ _ refl
+    (digits-at c sizeWidth offsetAt (countAt s) (omega arith) o (h .offset)) z5 in
+    let z3 = field-then c sizeAt sizeWidth offsetAt _ _ refl
+    (digits-at c sizeWidth sizeAt s (omega arith) o (size-field c)) z4 in
+    let z2 = field-then c enablerAt secretSize sizeAt _ _ refl (enabler-field c) z3 in
+    let z1 = field-then c nodeAt nodeSize enablerAt _ _ refl (node-field c) z2 in
+    field-then c 0 nodeAt nodeAt _ _ refl (same-eq (take nodeAt c) magic (h .magical)) z1
 
 -- The encoding, field after field.
 flat : (m a b u v j d x y z : List ℕ) →
@@ -226,15 +228,15 @@ records-back n a c ls t e l h =
 
 -- What stands where in the encoding of the parts, with s bytes of data and e extras.
 pub record Written (p : Parts) (s e : ℕ) (c : List ℕ) : Type 0 where
-  pub magical : take 32 c ≡ magic
-  pub node : take 20 (drop nodeAt c) ≡ p .node
-  pub enabler : take 32 (drop enablerAt c) ≡ p .enabler
-  pub size : take 8 (drop sizeAt c) ≡ digits 8 s
-  pub offset : take 8 (drop offsetAt c) ≡ digits 8 (countAt s)
+  pub magical : take nodeAt c ≡ magic
+  pub node : take nodeSize (drop nodeAt c) ≡ p .node
+  pub enabler : take secretSize (drop enablerAt c) ≡ p .enabler
+  pub size : take sizeWidth (drop sizeAt c) ≡ digits sizeWidth s
+  pub offset : take sizeWidth (drop offsetAt c) ≡ digits sizeWidth (countAt s)
   pub after-offset : List ℕ
   pub four : drop leasesAt c ≡ join (take fixedPlaces (p .leases)) ++ after-offset
   pub bytes : take s (drop dataAt c) ≡ p .bytes
-  pub count : take 4 (drop (countAt s) c) ≡ digits 4 e
+  pub count : take countSize (drop (countAt s) c) ≡ digits countSize e
   pub more : drop (countAt s + countSize) c ≡ join (drop fixedPlaces (p .leases))
       ++ replicate (p .room - usedLength s e) 0
   pub rest : drop (usedLength s e) c ≡ replicate (p .room - usedLength s e) 0
@@ -244,17 +246,17 @@ module _ (p : Parts) (v : Valid p) where
   sizes = places-sizes (p .leases) (v .places)
 
   four-long : length (take fixedPlaces (p .leases)) ≡ 4
-  four-long = length-take-le 4 (p .leases) (v .four)
+  four-long = length-take-le fixedPlaces (p .leases) (v .four)
 
   extras-long : length (drop fixedPlaces (p .leases)) ≡ extras (p .leases)
   unfolding extras
   extras-long = length-drop fixedPlaces (p .leases)
 
   pub four-bytes : length (join (take fixedPlaces (p .leases))) ≡ (fixedPlaces * recordSize)
-  four-bytes = length-join (take fixedPlaces (p .leases)) (each-take _ 4 (p .leases) sizes) ∙ rw four-long
+  four-bytes = length-join (take fixedPlaces (p .leases)) (each-take _ fixedPlaces (p .leases) sizes) ∙ rw four-long
 
   pub extra-bytes : length (join (drop fixedPlaces (p .leases))) ≡ recordSize * extras (p .leases)
-  extra-bytes = length-join (drop fixedPlaces (p .leases)) (each-drop _ 4 (p .leases) sizes) ∙ rw extras-long
+  extra-bytes = length-join (drop fixedPlaces (p .leases)) (each-drop _ fixedPlaces (p .leases) sizes) ∙ rw extras-long
 
   room-used : usedLength (length (p .bytes)) (extras (p .leases)) ≤ p .room
   unfolding used
@@ -280,14 +282,16 @@ module _ (p : Parts) (v : Valid p) where
       let e : ℕ = extras (p .leases) in
       let c : List ℕ = encode p in
       let z0 = field-back c 0 nodeAt nodeAt magic _ (encode-flat p) refl refl in
-      let z1 = field-back c nodeAt 20 enablerAt (p .node) _ (z0 .1) (v .node-size) refl in
-      let z2 = field-back c enablerAt 32 sizeAt (p .enabler) _ (z1 .1) (v .enabler-size) refl in
-      let z3 = field-back c sizeAt 8 offsetAt (digits 8 s) _ (z2 .1) (length-digits 8 s) refl in
-      let z4 = field-back c offsetAt 8 leasesAt (digits 8 (countAt s)) _ (z3 .1) (length-digits 8 (countAt s)) refl in
+      let z1 = field-back c nodeAt nodeSize enablerAt (p .node) _ (z0 .1) (v .node-size) refl in
+      let z2 = field-back c enablerAt secretSize sizeAt (p .enabler) _ (z1 .1) (v .enabler-size) refl in
+      let z3 = field-back c sizeAt sizeWidth offsetAt (digits sizeWidth s) _ (z2 .1) (length-digits sizeWidth s) refl in
+      let z4 = field-back c offsetAt sizeWidth leasesAt (digits sizeWidth (countAt s)) _ (z3 .1)
+      (length-digits sizeWidth (countAt s)) refl in
       let z5 = field-back c leasesAt (fixedPlaces * recordSize) dataAt (join (take fixedPlaces (p .leases))) _
       (z4 .1) four-bytes refl in
       let z6 = field-back c dataAt s (countAt s) (p .bytes) _ (z5 .1) refl (sym (count-is s)) in
-      let z7 = field-back c (countAt s) 4 (countAt s + countSize) (digits 4 e) _ (z6 .1) (length-digits 4 e) refl in
+      let z7 = field-back c (countAt s) countSize (countAt s + countSize) (digits countSize e) _ (z6 .1)
+      (length-digits countSize e) refl in
       let q : countAt s + countSize + recordSize * e ≡ usedLength s e = omega (arith, count-is s, used-is s e) in
       let z8 = field-back c (countAt s + countSize) (recordSize * e) (usedLength s e)
       (join (drop fixedPlaces (p .leases))) _ (z7 .1) extra-bytes q in
@@ -310,17 +314,17 @@ module _ (p : Parts) (v : Valid p) where
   pub size-encode : sizeOf (encode p) ≡ length (p .bytes)
   unfolding sizeOf numberAt
   size-encode =
-      let h : 256 ^ 8 ≡ 18446744073709551616 = refl in
+      let h : 256 ^ sizeWidth ≡ 18446744073709551616 = refl in
       ap number (written .size)
-      ∙ number-digits 8 (length (p .bytes))
+      ∙ number-digits sizeWidth (length (p .bytes))
       (omega (arith, room-used, used-is (length (p .bytes)) (extras (p .leases)), v .at-most))
 
-  pub offset-encode : numberAt 8 offsetAt (encode p) ≡ countAt (length (p .bytes))
+  pub offset-encode : numberAt sizeWidth offsetAt (encode p) ≡ countAt (length (p .bytes))
   unfolding numberAt
   offset-encode =
-      let h : 256 ^ 8 ≡ 18446744073709551616 = refl in
+      let h : 256 ^ sizeWidth ≡ 18446744073709551616 = refl in
       ap number (written .offset)
-      ∙ number-digits 8 (countAt (length (p .bytes))) (omega (
+      ∙ number-digits sizeWidth (countAt (length (p .bytes))) (omega (
         arith,
         room-used,
         count-is (length (p .bytes)),
@@ -331,9 +335,9 @@ module _ (p : Parts) (v : Valid p) where
   pub extras-encode : extrasOf (encode p) ≡ extras (p .leases)
   unfolding extrasOf numberAt
   extras-encode =
-      let h : 256 ^ 4 ≡ 4294967296 = refl in
+      let h : 256 ^ countSize ≡ 4294967296 = refl in
       rw size-encode (ap number (written .count)
-      ∙ number-digits 4 (extras (p .leases))
+      ∙ number-digits countSize (extras (p .leases))
       (omega (arith, room-used, used-is (length (p .bytes)) (extras (p .leases)), v .at-most)))
 
   pub node-encode : nodeOf (encode p) ≡ p .node
@@ -349,13 +353,13 @@ module _ (p : Parts) (v : Valid p) where
   data-encode = rw size-encode (written .bytes)
 
   four-encode : records fixedPlaces leasesAt (encode p) ≡ take fixedPlaces (p .leases)
-  four-encode = records-back 4 leasesAt (encode p) (take fixedPlaces (p .leases)) (written .after-offset)
-      (written .four) four-long (each-take _ 4 (p .leases) sizes)
+  four-encode = records-back fixedPlaces leasesAt (encode p) (take fixedPlaces (p .leases)) (written .after-offset)
+      (written .four) four-long (each-take _ fixedPlaces (p .leases) sizes)
 
   more-encode : records (extras (p .leases)) (countAt (length (p .bytes)) + countSize) (encode p)
       ≡ drop fixedPlaces (p .leases)
   more-encode = records-back (extras (p .leases)) (countAt (length (p .bytes)) + countSize) (encode p)
-      (drop fixedPlaces (p .leases)) _ (written .more) extras-long (each-drop _ 4 (p .leases) sizes)
+      (drop fixedPlaces (p .leases)) _ (written .more) extras-long (each-drop _ fixedPlaces (p .leases) sizes)
 
   pub leases-encode : leasesOf (encode p) ≡ p .leases
   unfolding leasesOf
@@ -375,7 +379,7 @@ module _ (p : Parts) (v : Valid p) where
     fits = rw (size-encode, extras-encode, length-encode) room-used;
   }
     where
-      few-extras : extras (p .leases) ≤ 60
+      few-extras : extras (p .leases) ≤ extraLimit
       few-extras = omega (arith, sym extras-long ∙ length-drop fixedPlaces (p .leases), v .few)
 
   contents-encode : Contents (encode p)
@@ -400,8 +404,8 @@ pub no-lease : Place noLease
 unfolding noLease recordOk held ownerOf numberAt number numberAfter allZero
 no-lease = record { size = refl; ok = refl }
 
-pub fresh-valid : (n : ℕ) (node enabler : List ℕ) → least ≤ n → n ≤ limit → length node ≡ 20 → length enabler ≡ 32
-    → Valid (fresh n node enabler)
+pub fresh-valid : (n : ℕ) (node enabler : List ℕ) → least ≤ n → n ≤ limit → length node ≡ nodeSize
+    → length enabler ≡ secretSize → Valid (fresh n node enabler)
 unfolding fresh used extras usedLength countAt lastHeld
 fresh-valid n node enabler a b e f = record {
   at-least = a;

@@ -1,21 +1,22 @@
 -- The one view of a container's bytes, head, data, tail and zeros: the encoding of parts has it, and a change to
 -- head, data or tail keeps it. Assumes nothing.
-use mathlib.Core.Path.{_≡_, refl, sym, ap, _∙_}
+use mathlib.Core.Path.{_≡_, sym, ap, _∙_}
 use mathlib.Core.List.{List, _++_, append-assoc}
 use Prim.Native.Nat.{ℕ, _+_, _-_, _*_, _≤_}
 use native.Mathlib.Omega.{arith}
-use lib.ListN.{length, take, drop, replicate, length-append, length-replicate}
+use lib.ListN.{length, replicate, length-append, length-replicate}
 use Rattle.format.specs.declared.layout.Frame.{Frame}
 use Rattle.format.specs.Parts.{frontOf, Parts, headOf, tailOf, encode, used, extras, partsOf}
 use Rattle.format.specs.View.{Laid}
 use Rattle.format.specs.Claims.{Valid}
-use Rattle.format.specs.Layout.{leasesAt, dataAt, countSize, recordSize, dataOf, leasesOf, extrasOf}
+use Rattle.format.specs.Layout.{leasesAt, dataAt, countSize, recordSize, dataOf}
 use Rattle.octets.proofs.NumberLaws.{length-digits}
 use Rattle.format.specs.Judging.{Known}
 use Rattle.octets.specs.Strings.{Octets}
 use Rattle.format.proofs.RoundTrip.{parts-valid, encode-parts, four-bytes, extra-bytes}
-use Rattle.format.proofs.WellFormed.{length-leases, data-length, used-is}
+use Rattle.format.proofs.WellFormed.{used-is}
 use Rattle.format.proofs.JudgingLaws.{known-sized}
+use Rattle.format.proofs.KnownLaws.{size-known, extras-known}
 use Rattle.octets.specs.Moves.{put}
 use Rattle.octets.proofs.MoveLaws.{put-left, put-right, put-length, put-zeros, zeros-split}
 
@@ -44,24 +45,14 @@ unfolding encode
 laid-encoded p s k c l e = rw e (l .is)
 
 -- A well-formed container in the view of its own parts.
-pub leases-extras : (c : List ℕ) → extras (leasesOf c) ≡ extrasOf c
-unfolding extras
-leases-extras c = omega (arith, length-leases c)
-
 module _ (c : List ℕ) (f : Frame) (k : Known c f) where
-  extras-known : extras (leasesOf c) ≡ f .extras
-  extras-known = leases-extras c ∙ sym (k .extras-is)
-
-  size-known : length (dataOf c) ≡ f .size
-  size-known = data-length c (k .formed) ∙ sym (k .size-is)
-
   used-known : used (partsOf c) ≡ dataAt + f .size + (countSize + recordSize * f .extras)
   unfolding partsOf
-  used-known = used-view (partsOf c) (parts-valid c (k .formed)) ∙ rw (size-known, extras-known)
+  used-known = used-view (partsOf c) (parts-valid c (k .formed)) ∙ rw (size-known k, extras-known k)
 
   tail-known : length (tailOf (partsOf c)) ≡ countSize + recordSize * f .extras
   unfolding partsOf
-  tail-known = length-tail (partsOf c) (parts-valid c (k .formed)) ∙ rw extras-known
+  tail-known = length-tail (partsOf c) (parts-valid c (k .formed)) ∙ rw (extras-known k)
 
   encoded-known : encode (partsOf c)
       ≡ headOf (partsOf c)
@@ -76,7 +67,7 @@ module _ (c : List ℕ) (f : Frame) (k : Known c f) where
   formed-laid o = record {
     is = sym (encode-parts c (k .formed) o) ∙ encoded-known;
     head = length-head (partsOf c) (parts-valid c (k .formed));
-    sized = size-known;
+    sized = size-known k;
     tail = tail-known;
     fits = omega (arith, known-sized c f k .fits);
   }

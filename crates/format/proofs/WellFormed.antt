@@ -1,6 +1,6 @@
 -- What well-formedness of a container says, as records of facts; laws of its lease records. Assumes nothing.
 use mathlib.Core.Path.{_≡_, refl, sym, ap, _∙_}
-use mathlib.Core.Bool.{Bool, true, false, _&&_, false≢true}
+use mathlib.Core.Bool.{Bool, true, false, _&&_}
 use mathlib.Core.List.{List, [], _∷_, _++_, append-assoc}
 use Prim.Native.Nat.{ℕ, zero, suc, _+_, _*_, _≤_, _<_}
 use native.Mathlib.Omega.{arith}
@@ -12,15 +12,16 @@ use Rattle.octets.specs.Numbers.{numberAt}
 use Rattle.octets.specs.Strings.{allZero, same, join}
 use Rattle.format.specs.Layout.{magic, least, limit, offsetAt, leasesAt, dataAt, countAt, usedLength, sizeOf}
 use Rattle.format.specs.Layout.{dataOf, extrasOf, leasesOf, recordSize, records, fixedPlaces, countSize}
+use Rattle.format.specs.Layout.{nodeAt, sizeWidth, extraLimit}
 use Rattle.format.specs.Container.{lengthAllowed, held, recordOk, lastHeld, fieldsOk, contentsOk, wellFormed}
 use Rattle.octets.specs.Lists.{Each, every}
 use Rattle.octets.proofs.ListLaws.{both, by-refuting, and-assoc}
 
 -- ---- the fields
 pub record Fields (c : List ℕ) : Type 0 where
-  pub magical : same (take 32 c) magic ≡ true
-  pub offset : numberAt 8 offsetAt c ≡ countAt (sizeOf c)
-  pub few : extrasOf c ≤ 60
+  pub magical : same (take nodeAt c) magic ≡ true
+  pub offset : numberAt sizeWidth offsetAt c ≡ countAt (sizeOf c)
+  pub few : extrasOf c ≤ extraLimit
   pub fits : usedLength (sizeOf c) (extrasOf c) ≤ length c
 
 pub fields-facts : (c : List ℕ) → fieldsOk c ≡ true → Fields c
@@ -146,7 +147,7 @@ every-append [] b = refl
 every-append (r ∷ a) b = ap (λ (t : Bool). recordOk r && t) (every-append a b)
     ∙ sym (and-assoc (recordOk r) (every recordOk a) (every recordOk b))
 
-pub length-leases : (c : List ℕ) → length (leasesOf c) ≡ 4 + extrasOf c
+pub length-leases : (c : List ℕ) → length (leasesOf c) ≡ fixedPlaces + extrasOf c
 unfolding leasesOf
 length-leases c = length-append (records fixedPlaces leasesAt c)
     (records (extrasOf c) (countAt (sizeOf c) + countSize) c)

@@ -21,9 +21,9 @@ frameOf c = record { size = sizeOf c; extras = extrasOf c }
 abbrev pub fieldsFound : List ℕ → Fields
 fieldsFound c = cond (fieldsOk c) (Agree (frameOf c)) Disagree
 
+-- The fields of c agree, and f is its frame.
 pub record Framed (c : List ℕ) (f : Frame) : Type 0 where
-  pub size-is : f .size ≡ sizeOf c
-  pub extras-is : f .extras ≡ extrasOf c
+  pub is : f ≡ frameOf c
   pub agree : fieldsOk c ≡ true
 
 -- The outcome's number for each case of `Judged`, 0 for a well-formed container, and the frame that comes with it.
@@ -44,6 +44,5 @@ pub record Judges (c : List ℕ) (j : Judged) : Type 0 where
 
 -- A well-formed container with its frame, for the code that goes on with it.
 pub record Known (c : List ℕ) (f : Frame) : Type 0 where
+  pub is : f ≡ frameOf c
   pub formed : wellFormed c ≡ true
-  pub size-is : f .size ≡ sizeOf c
-  pub extras-is : f .extras ≡ extrasOf c

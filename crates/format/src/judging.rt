@@ -8,7 +8,6 @@ ghost use Rattle.octets.specs.Lists.{every};
 ghost use Rattle.format.specs.Layout.{magic, nodeAt, recordSize, limit, records};
 ghost use Rattle.format.specs.Container.{lengthAllowed, recordOk, lastHeld, contentsOk};
 ghost use Rattle.format.specs.Judging.{fieldsFound, Framed, Judges};
-use crate::layout::COUNT_SIZE;
 use crate::layout::DATA_AT;
 use crate::layout::EXTRA_LIMIT;
 use crate::layout::FIXED_PLACES;

@@ -203,8 +203,8 @@ leaves-encode x p v = rw (outcome-encode p (x .request) (length (x .space)) v, p
     go true = refl
     go false = refl
 
-pub valid-after : (p : Parts) (r : Option Request) (n : ℕ) → Valid p → ProperOption r → eqb (firstRow (requestRows p r n)) 0
-    ≡ true → Valid (afterOf p r)
+pub valid-after : (p : Parts) (r : Option Request) (n : ℕ) → Valid p → ProperOption r
+    → eqb (firstRow (requestRows p r n)) 0 ≡ true → Valid (afterOf p r)
 unfolding requestRows afterOf maybe
 valid-after p none n v q e = v
 valid-after p (some r) n v q e = after-valid p r n v q (eqb-true _ _ e)

@@ -28,7 +28,8 @@ use Rattle.rules.proofs.Kept.{used-fewer}
 use Rattle.format.specs.Judging.{Known}
 use Rattle.leases.specs.Places.{hasToken, foundOf}
 use Rattle.leases.specs.Operations.{leaseOutcome, leaseDone, leaseContainer}
-use Rattle.leases.proofs.PlaceLaws.{present-append, known-places, known-extras}
+use Rattle.leases.proofs.PlaceLaws.{present-append, known-places}
+use Rattle.format.proofs.KnownLaws.{extras-known}
 use Rattle.leases.specs.Changes.{leasedAs}
 use Rattle.leases.proofs.ChangeLaws.{used-leases, extras-more}
 use Rattle.leases.specs.declared.places.Found.the-variants.{At, Nowhere}
@@ -294,7 +295,7 @@ module _ (c : List ℕ) (f : Frame) (k : Known c f) where
           used-more : used (withLeases (partsOf c) (leasesOf c ++ (r ∷ []))) ≡ usedLength (f .size) (f .extras + 1)
           used-more =
               used-leases c f k (leasesOf c ++ (r ∷ []))
-              ∙ rw (extras-more (leasesOf c) r (omega (arith, known-places c f k)), known-extras c f k)
+              ∙ rw (extras-more (leasesOf c) r (omega (arith, known-places c f k)), extras-known k)
 
           pub place-nowhere : length c < usedLength (f .size) (f .extras + 1) → Answered c (add r) 11 0 c
           unfolding partsOf

@@ -20,6 +20,7 @@ use Rattle.format.specs.Layout.{limit}
 use Rattle.rules.specs.Requests.{entrySize, testSize, entryOffset, entryCount, entryOpcode, entrySpecimen, allFrom}
 use Rattle.rules.specs.Requests.{sumFrom, testsFrom, readsFrom, entryLimit}
 use Rattle.rules.specs.Testing.{resolves, position, piece, testPiece, readPiece, exceeds, decides, holds, replyOf}
+use Rattle.rules.specs.Testing.{lengthSize}
 use Rattle.requests.specs.Cursors.{entryAt, testAt, bodyOf, bodyAt}
 use Rattle.requests.specs.Forms.{TableIn}
 use Rattle.requests.specs.Offsets.{resolvedOf}
@@ -77,15 +78,16 @@ length-pieces stride (suc n) p q d = ap suc (length-pieces stride n (p + stride)
 
 -- The table of lengths at the front of a reply.
 abbrev pub tableOf : List (List ℕ) → List ℕ
-tableOf ps = join (map (λ s. digits 4 (length s)) ps)
+tableOf ps = join (map (λ s. digits lengthSize (length s)) ps)
 
-length-table : (ps : List (List ℕ)) → length (tableOf ps) ≡ 4 * length ps
+length-table : (ps : List (List ℕ)) → length (tableOf ps) ≡ lengthSize * length ps
 unfolding join
 length-table [] = refl
 length-table (s ∷ ps) =
-    length-append (digits 4 (length s)) (tableOf ps) ∙ omega (arith, length-digits 4 (length s), length-table ps)
+    length-append (digits lengthSize (length s)) (tableOf ps)
+    ∙ omega (arith, length-digits lengthSize (length s), length-table ps)
 
-length-reply : (ps : List (List ℕ)) → length (replyOf ps) ≡ 4 * length ps + length (join ps)
+length-reply : (ps : List (List ℕ)) → length (replyOf ps) ≡ lengthSize * length ps + length (join ps)
 unfolding replyOf
 length-reply ps = length-append (tableOf ps) (join ps) ∙ rw length-table
 
@@ -97,14 +99,14 @@ reply-none : length (replyOf []) ≡ 0
 unfolding replyOf join
 reply-none = refl
 
-reply-cons : (s : List ℕ) (ps : List (List ℕ)) → length (replyOf (s ∷ ps)) ≡ 4 + length s + length (replyOf ps)
+reply-cons : (s : List ℕ) (ps : List (List ℕ)) → length (replyOf (s ∷ ps)) ≡ lengthSize + length s + length (replyOf ps)
 reply-cons s ps = omega (arith, length-reply (s ∷ ps), length-reply ps, length-join s ps)
 
 pub part-short : (d : List ℕ) (p n : ℕ) → length (take n (drop p d)) ≤ length d
 part-short d p n = simp (length-take, length-drop) (omega arith)
 
 reply-most : (stride n p : ℕ) (q d : List ℕ) → length d ≤ limit
-    → length (replyOf (piecesFrom stride n p q d)) ≤ (4 + limit) * n
+    → length (replyOf (piecesFrom stride n p q d)) ≤ (lengthSize + limit) * n
 unfolding piecesFrom piece
 reply-most stride zero p q d h = omega (arith, reply-none)
 reply-most stride (suc n) p q d h =
@@ -113,7 +115,7 @@ reply-most stride (suc n) p q d h =
       reply-cons (piece d (entryOffset p q) (entryCount p q)) (piecesFrom stride n (p + stride) q d),
       part-short d (position (entryOffset p q) (length d)) (entryCount p q),
       reply-most stride n (p + stride) q d h,
-      mul-suc (4 + limit) n,
+      mul-suc (lengthSize + limit) n,
     )
 
 -- ---- the first entry of a table and the rest
@@ -226,7 +228,7 @@ module _ {t : Table} {q d : List ℕ} {m : Measured} {at left : ℕ} (M : Measur
   measuring-sum : (h : 0 < left)
       → let s = piece d (entryOffset at q) (entryCount at q) in
       let rest = piecesFrom (t .stride) (left - 1) (at + t .stride) q d in
-      m .length + (4 + length s) + length (replyOf rest) ≡ length (replyOf (piecesIn t q d))
+      m .length + (lengthSize + length s) + length (replyOf rest) ≡ length (replyOf (piecesIn t q d))
   measuring-sum h =
       let s = piece d (entryOffset at q) (entryCount at q) in
       let rest = piecesFrom (t .stride) (left - 1) (at + t .stride) q d in
@@ -239,13 +241,15 @@ module _ {t : Table} {q d : List ℕ} {m : Measured} {at left : ℕ} (M : Measur
     measuring-piece = ap length (is ∙ reading-piece E)
 
     -- The lengths add up without wrapping.
-    pub measuring-bound : TableIn q t → length d ≤ limit → m .length + (4 + length s) ≤ (4 + limit) * entryLimit
+    pub measuring-bound : TableIn q t → length d ≤ limit
+        → m .length + (lengthSize + length s) ≤ (lengthSize + limit) * entryLimit
     measuring-bound T l =
         omega (arith, measuring-sum h, measuring-piece, reply-most (t .stride) (t .count) (t .first .at) q d l, T .few)
 
     pub measuring-next : (a b : Bool) → a ≡ (m .resolves && r .resolves)
         → b ≡ cond (m .exceeds) true (ltb (length d) (r .position + x .count))
-        → Measuring t q d (record { resolves = a; exceeds = b; length = m .length + (4 + length s) }) (x .next .at)
+        → Measuring t q d
+        (record { resolves = a; exceeds = b; length = m .length + (lengthSize + length s) }) (x .next .at)
         (left - 1)
     measuring-next a b f g =
         let y = resolveFrom (t .stride) (left - 1) (at + t .stride) q (length d) in
@@ -278,37 +282,40 @@ module _ {t : Table} {q d : List ℕ} {m : Measured} {at left : ℕ} (M : Measur
 -- ---- writing
 -- The table, and the pieces right behind it.
 put-reply : (n : ℕ) (ps : List (List ℕ)) (l : List ℕ) → length ps ≡ n
-    → put (4 * n) (join ps) (put 0 (tableOf ps) l) ≡ put 0 (replyOf ps) l
+    → put (lengthSize * n) (join ps) (put 0 (tableOf ps) l) ≡ put 0 (replyOf ps) l
 unfolding replyOf
 put-reply n ps l e =
-    let k : 4 * n ≡ 0 + length (tableOf ps) = omega (arith, length-table ps) in
-    put-put 0 (4 * n) (tableOf ps) (join ps) l (omega arith) k
+    let k : lengthSize * n ≡ 0 + length (tableOf ps) = omega (arith, length-table ps) in
+    put-put 0 (lengthSize * n) (tableOf ps) (join ps) l (omega arith) k
 
 -- The first length and the first piece, and then the rest behind both.
-put-turn : (to behind : ℕ) (s : List ℕ) (ps : List (List ℕ)) (l : List ℕ) → to + 4 + 4 * length ps ≤ behind
+put-turn : (to behind : ℕ) (s : List ℕ) (ps : List (List ℕ)) (l : List ℕ)
+    → to + lengthSize + lengthSize * length ps ≤ behind
     → behind + length (join (s ∷ ps)) ≤ length l
     → put behind (join (s ∷ ps)) (put to (tableOf (s ∷ ps)) l)
-    ≡ put (behind + length s) (join ps) (put (to + 4) (tableOf ps) (put behind s (put to (digits 4 (length s)) l)))
+    ≡ put (behind + length s) (join ps)
+    (put (to + lengthSize) (tableOf ps) (put behind s (put to (digits lengthSize (length s)) l)))
 unfolding join
 put-turn to behind s ps l h k =
-    let w : List ℕ = digits 4 (length s) in
-    let lw : length w ≡ 4 = length-digits 4 (length s) in
+    let w : List ℕ = digits lengthSize (length s) in
+    let lw : length w ≡ lengthSize = length-digits lengthSize (length s) in
     let l' : List ℕ = put to w l in
     let ll : length l' ≡ length l = put-length to w l (omega arith) in
-    let lt : length (tableOf ps) ≡ 4 * length ps = length-table ps in
+    let lt : length (tableOf ps) ≡ lengthSize * length ps = length-table ps in
     let lj : length (s ++ join ps) ≡ length s + length (join ps) = length-append s (join ps) in
-    let lp : length (put (to + 4) (tableOf ps) l') ≡ length l' = put-length (to + 4) (tableOf ps) l' (omega arith) in
-    let e : put to (w ++ tableOf ps) l ≡ put (to + 4) (tableOf ps) l' =
-    sym (put-put to (to + 4) w (tableOf ps) l (omega arith) (omega arith)) in
+    let lp : length (put (to + lengthSize) (tableOf ps) l') ≡ length l' =
+    put-length (to + lengthSize) (tableOf ps) l' (omega arith) in
+    let e : put to (w ++ tableOf ps) l ≡ put (to + lengthSize) (tableOf ps) l' =
+    sym (put-put to (to + lengthSize) w (tableOf ps) l (omega arith) (omega arith)) in
     ap (put behind (s ++ join ps)) e
-    ∙ sym (put-put behind (behind + length s) s (join ps) (put (to + 4) (tableOf ps) l') (omega arith) refl)
+    ∙ sym (put-put behind (behind + length s) s (join ps) (put (to + lengthSize) (tableOf ps) l') (omega arith) refl)
     ∙ ap (put (behind + length s) (join ps))
-    (sym (put-apart (to + 4) behind (tableOf ps) s l' (omega arith) (omega arith)))
+    (sym (put-apart (to + lengthSize) behind (tableOf ps) s l' (omega arith) (omega arith)))
 
 -- What is left of the table t, put into r, is the whole reply, put into r₀.
 pub record Writing (t : Table) (q d r₀ r : List ℕ) (to behind at left : ℕ) : Type 0 where
   pub reaches : at + t .stride * left ≤ length q
-  pub apart : to + 4 * left ≤ behind
+  pub apart : to + lengthSize * left ≤ behind
   pub room : behind + length (join (piecesFrom (t .stride) left at q d)) ≤ length r
   pub same : length r ≡ length r₀
   pub written :
@@ -316,7 +323,7 @@ pub record Writing (t : Table) (q d r₀ r : List ℕ) (to behind at left : ℕ)
       put behind (join rest) (put to (tableOf rest) r) ≡ put 0 (replyOf (piecesIn t q d)) r₀
 
 pub writing-start : (t : Table) (q d r : List ℕ) → TableIn q t → length (replyOf (piecesIn t q d)) ≤ length r
-    → Writing t q d r r 0 (4 * t .count) (t .first .at) (t .count)
+    → Writing t q d r r 0 (lengthSize * t .count) (t .first .at) (t .count)
 writing-start t q d r h k =
     let e : length (piecesIn t q d) ≡ t .count = length-pieces (t .stride) (t .count) (t .first .at) q d in
     record {
@@ -343,11 +350,12 @@ module _ {t : Table} {q d r₀ r : List ℕ} {to behind at left : ℕ} (W : Writ
         let e = ap (λ (ps : List (List ℕ)). length (join ps)) writing-pieces in
         omega (arith, W .room, length-join s rest)
 
-    pub writing-next : Writing t q d r₀ (put behind s (put to (digits 4 (length s)) r)) (to + 4) (behind + length s)
+    pub writing-next :
+        Writing t q d r₀ (put behind s (put to (digits lengthSize (length s)) r)) (to + lengthSize) (behind + length s)
         (x .next .at) (left - 1)
     writing-next =
-        let w : List ℕ = digits 4 (length s) in
-        let lw : length w ≡ 4 = length-digits 4 (length s) in
+        let w : List ℕ = digits lengthSize (length s) in
+        let lw : length w ≡ lengthSize = length-digits lengthSize (length s) in
         let room = writing-room in
         let lr : length (put to w r) ≡ length r = put-length to w r (omega (arith, W .apart)) in
         let ls : length (put behind s (put to w r)) ≡ length (put to w r) =

@@ -5,12 +5,11 @@ use mathlib.Core.List.{List, [], _∷_}
 use mathlib.Core.Option.{Option, none, some}
 use Prim.Native.Nat.{ℕ, zero, suc, _+_, _*_, _-_, _≤_, _<_}
 use native.Mathlib.Omega.{arith}
-use native.Mathlib.Nat.{not-suc-le-zero, mul-suc}
+use native.Mathlib.Nat.{mul-suc}
 use lib.ListN.{length, take, drop, getD, length-drop}
 use lib.Seq.{take-all}
-use lib.Dec.{eqb, leb}
+use lib.Dec.{eqb}
 use borrow.Author.Tests.{eqb-true, leb-true, eq-eqb, ne-eqb, le-leb, lt-leb}
-use Rattle.requests.specs.declared.cursors.Cursor.{Cursor}
 use Rattle.requests.specs.declared.cursors.Body.{Body}
 use Rattle.requests.specs.declared.cursors.Header.{Header}
 use Rattle.requests.specs.declared.cursors.ReadHeader.{ReadHeader}

@@ -10,7 +10,7 @@ use lib.ListN.{length}
 use Rattle.octets.specs.Lists.{isSome}
 use Rattle.format.specs.Layout.{recordSize, secretSize}
 use Rattle.format.specs.Container.{held}
-use Rattle.rules.specs.Requests.{Test, Read, Write, Request, testWrite, add, renew, cancel, read, requestLimit}
+use Rattle.rules.specs.Requests.{Test, Write, Request, testWrite, add, renew, cancel, read, requestLimit}
 use Rattle.rules.specs.Requests.{entryLimit, entrySize, testSize, entryCount, entrySpecimen, testEntryOk, allFrom}
 use Rattle.rules.specs.Requests.{sumFrom, testsFrom, writesFrom, readsFrom}
 use Rattle.requests.specs.Cursors.{bodyOf}

@@ -60,20 +60,20 @@ pub struct TestEntry {
 }
 
 // What follows the kind of a test-and-write, up to its enabler.
-pub struct Header {
-    pub tests: usize,
-    pub writes: usize,
-    pub flag: usize,
-    pub new: usize,
-    pub next: Cursor,
+pub(crate) struct Header {
+    pub(crate) tests: usize,
+    pub(crate) writes: usize,
+    pub(crate) flag: usize,
+    pub(crate) new: usize,
+    pub(crate) next: Cursor,
 }
 
 // What follows the kind of a read, up to its table.
-pub struct ReadHeader {
-    pub reads: usize,
-    pub first: u8,
-    pub second: u8,
-    pub next: Cursor,
+pub(crate) struct ReadHeader {
+    pub(crate) reads: usize,
+    pub(crate) first: u8,
+    pub(crate) second: u8,
+    pub(crate) next: Cursor,
 }
 
 impl Body {

@@ -10,7 +10,7 @@ use lib.Dec.{eqb, leb}
 use borrow.Author.Tests.{not-false, eqb-true, eqb-false, leb-true, ne-eqb}
 use Rattle.octets.specs.Moves.{put}
 use Rattle.octets.proofs.MoveLaws.{put-length}
-use Rattle.format.specs.Layout.{least, limit, nodeOf, dataOf, leasesOf}
+use Rattle.format.specs.Layout.{least, limit, nodeOf, dataOf, leasesOf, nodeSize, secretSize}
 use Rattle.format.specs.Container.{lengthAllowed, wellFormed}
 use Rattle.format.specs.Parts.{Parts, partsOf, encode, fresh}
 use Rattle.format.specs.Claims.{Valid}
@@ -212,7 +212,7 @@ created-valid c node enabler e =
     let x = clear 1 _ _ (omega arith) e in
     let y = clear 3 _ _ (omega arith) (x .1) in
     let a = both (leb least (length c)) (leb (length c) limit) (not-false _ (x .0)) in
-    let l = both (eqb (length node) 20) (eqb (length enabler) 32) (not-false _ (y .0)) in
+    let l = both (eqb (length node) nodeSize) (eqb (length enabler) secretSize) (not-false _ (y .0)) in
     fresh-valid (length c) node enabler (leb-true _ _ (a .0)) (leb-true _ _ (a .1))
     (eqb-true _ _ (l .0)) (eqb-true _ _ (l .1))
 

@@ -31,7 +31,6 @@ use Rattle.octets.specs.Rows.{firstRow}
 use Rattle.rules.specs.Edges.{enabler, put, testAndWrite, given, Case, Outcome, cases, results, request62}
 use Rattle.rules.specs.Edges.{empty, nines, EdgesHold, numbers, finally, usedIn, result}
 use Rattle.rules.proofs.WriteLaws.{no-gap}
-use Rattle.rules.specs.Requests as requests
 
 -- a table is claimed in stretches
 pieces : (n : ℕ) (xs : List Case) (ys : List Outcome) →

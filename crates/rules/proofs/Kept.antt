@@ -1,6 +1,6 @@
 -- A request that is answered 0 leaves parts that obey the rules and fit. Assumes nothing.
-use mathlib.Core.Path.{_≡_, refl, sym, _∙_}
-use mathlib.Core.Bool.{Bool, true, false, not, _&&_, true≢false}
+use mathlib.Core.Path.{_≡_, refl, _∙_}
+use mathlib.Core.Bool.{Bool, true, false, not, _&&_}
 use mathlib.Core.List.{List, [], _∷_, _++_}
 use mathlib.Core.Option.{Option, none, some}
 use Prim.Native.Nat.{ℕ, _+_, _-_, _*_, _≤_, _<_}
@@ -10,7 +10,8 @@ use lib.Seq.{drop-at, drop-append-le, length-take-le}
 use lib.Dec.{leb}
 use borrow.Author.Tests.{ltb-false, leb-false}
 use Rattle.format.specs.Container.{held, lastHeld}
-use Rattle.format.specs.Layout.{expiryOf, renewalOf, usedLength, countAt, countSize, fixedPlaces, recordSize}
+use Rattle.format.specs.Layout.{expiryOf, renewalOf, usedLength, countAt, countSize, fixedPlaces, leaseLimit}
+use Rattle.format.specs.Layout.{recordSize}
 use Rattle.format.specs.Parts.{Parts, used, extras, noLease}
 use Rattle.format.specs.Claims.{Place, Valid}
 use Rattle.octets.specs.Lists.{Each, isSome, maybe}
@@ -52,8 +53,8 @@ bytes-kept p d v f = record {
 
 -- lease places in order
 pub record Ordered (ls : List (List ℕ)) : Type 0 where
-  pub four : 4 ≤ length ls
-  pub few : length ls ≤ 64
+  pub four : fixedPlaces ≤ length ls
+  pub few : length ls ≤ leaseLimit
   pub places : Each Place ls
   pub last : lastHeld (drop fixedPlaces ls) ≡ true
 
@@ -80,7 +81,7 @@ pub used-fewer : (p : Parts) (ls : List (List ℕ)) → Valid p → length ls �
     → used (withLeases p ls) ≤ p .room
 unfolding withLeases used extras usedLength
 used-fewer p ls v h = let f : countAt (length (p .bytes)) + countSize + recordSize *
-    (length (p .leases) - 4) ≤ p .room = v .fits in omega arith
+    (length (p .leases) - fixedPlaces) ≤ p .room = v .fits in omega arith
 
 -- a lease record in a place
 pub set-ordered : (ls : List (List ℕ)) (i : ℕ) (r : List ℕ) → Ordered ls → Place r → held r ≡ true
@@ -105,42 +106,43 @@ extended-ordered x ls i h k o =
     }) hl
 
 -- cancel: an emptied place, then the tail dropped
-pub dropped-ordered : (ls : List (List ℕ)) → 4 ≤ length ls → length ls ≤ 64 → Each Place ls → Ordered (dropTail ls)
+pub dropped-ordered : (ls : List (List ℕ)) → fixedPlaces ≤ length ls → length ls ≤ leaseLimit → Each Place ls
+    → Ordered (dropTail ls)
 unfolding dropTail
 dropped-ordered ls f m e =
     let a : List (List ℕ) = take fixedPlaces ls in
     let b : List (List ℕ) = trim (drop fixedPlaces ls) in
-    let la : length a ≡ 4 = length-take-le 4 ls f in
+    let la : length a ≡ fixedPlaces = length-take-le fixedPlaces ls f in
     let lb : length b ≤ length (drop fixedPlaces ls) = length-trim (drop fixedPlaces ls) in
-    let ld : length (drop fixedPlaces ls) ≡ length ls - 4 = length-drop fixedPlaces ls in
+    let ld : length (drop fixedPlaces ls) ≡ length ls - fixedPlaces = length-drop fixedPlaces ls in
     let lab : length (a ++ b) ≡ length a + length b = length-append a b in
     record {
       four = omega arith;
       few = omega arith;
-      places = each-append Place a b (each-take Place 4 ls e)
-          (each-trim Place (drop fixedPlaces ls) (each-drop Place 4 ls e));
-      last = rw (drop-at a b 4 la) (last-trim (drop fixedPlaces ls));
+      places = each-append Place a b (each-take Place fixedPlaces ls e)
+          (each-trim Place (drop fixedPlaces ls) (each-drop Place fixedPlaces ls e));
+      last = rw (drop-at a b fixedPlaces la) (last-trim (drop fixedPlaces ls));
     }
 
-pub length-dropped : (ls : List (List ℕ)) → 4 ≤ length ls → length (dropTail ls) ≤ length ls
+pub length-dropped : (ls : List (List ℕ)) → fixedPlaces ≤ length ls → length (dropTail ls) ≤ length ls
 unfolding dropTail
 length-dropped ls f =
     let lb : length (trim (drop fixedPlaces ls)) ≤ length (drop fixedPlaces ls) = length-trim (drop fixedPlaces ls) in
-    let ld : length (drop fixedPlaces ls) ≡ length ls - 4 = length-drop fixedPlaces ls in
-    let la : length (take fixedPlaces ls) ≡ 4 = length-take-le 4 ls f in
+    let ld : length (drop fixedPlaces ls) ≡ length ls - fixedPlaces = length-drop fixedPlaces ls in
+    let la : length (take fixedPlaces ls) ≡ fixedPlaces = length-take-le fixedPlaces ls f in
     rw length-append (omega arith)
 
 -- a new extra
-pub snoc-ordered : (ls : List (List ℕ)) (r : List ℕ) → Ordered ls → length ls < 64 → Place r → held r ≡ true
+pub snoc-ordered : (ls : List (List ℕ)) (r : List ℕ) → Ordered ls → length ls < leaseLimit → Place r → held r ≡ true
     → Ordered (ls ++ (r ∷ []))
 snoc-ordered ls r o h k e =
     let l : length (ls ++ (r ∷ [])) ≡ length ls + 1 = length-append ls (r ∷ []) in
-    let f : 4 ≤ length ls = o .four in
+    let f : fixedPlaces ≤ length ls = o .four in
     record {
       four = omega arith;
       few = omega arith;
       places = each-append Place ls (r ∷ []) (o .places) (k, tt);
-      last = rw (drop-append-le 4 ls (r ∷ []) f) (last-snoc (drop fixedPlaces ls) r ∙ e);
+      last = rw (drop-append-le fixedPlaces ls (r ∷ []) f) (last-snoc (drop fixedPlaces ls) r ∙ e);
     }
 
 -- what the requests make of ordered places
@@ -166,8 +168,8 @@ cancelled-ordered t ls o = go (firstOf (cancelledBy t) ls) refl
     go none e = (o, omega arith)
     go (some i) e =
         let l : length (set ls i noLease) ≡ length ls = length-set ls i noLease in
-        let f : 4 ≤ length ls = o .four in
-        let m : length ls ≤ 64 = o .few in
+        let f : fixedPlaces ≤ length ls = o .four in
+        let m : length ls ≤ leaseLimit = o .few in
         let d : length (dropTail (set ls i noLease)) ≤ length (set ls i noLease) = length-dropped (set ls i noLease)
         (omega arith) in (
           dropped-ordered (set ls i noLease) (omega arith) (omega arith)
@@ -177,14 +179,14 @@ cancelled-ordered t ls o = go (firstOf (cancelledBy t) ls) refl
 
 -- add: the places stay in order where fewer than 64 leases are present or one has the token
 pub added-ordered : (r : List ℕ) (ls : List (List ℕ)) → Ordered ls → Place r → held r ≡ true →
-    (leb 64 (present ls) && not (knows (renewedBy (renewalOf r)) ls)) ≡ false → Ordered (added r ls)
+    (leb leaseLimit (present ls) && not (knows (renewedBy (renewalOf r)) ls)) ≡ false → Ordered (added r ls)
 unfolding added placedIn maybe knows isSome extended renewedBy
 added-ordered r ls o k h n = go (firstOf (renewedBy (renewalOf r)) ls) refl n
   where
-    room : (f : Option ℕ) → firstOf vacant ls ≡ f → (leb 64 (present ls) && true) ≡ false
+    room : (f : Option ℕ) → firstOf vacant ls ≡ f → (leb leaseLimit (present ls) && true) ≡ false
         → Ordered (maybe (ls ++ (r ∷ [])) (λ i. set ls i r) f)
     room none e m =
-        let z : present ls < 64 = leb-false 64 (present ls) (and-true m) in
+        let z : present ls < leaseLimit = leb-false leaseLimit (present ls) (and-true m) in
         let l : present ls ≡ length ls = full-present ls e in
         snoc-ordered ls r o (omega arith) k h
       where
@@ -196,7 +198,8 @@ added-ordered r ls o k h n = go (firstOf (renewedBy (renewalOf r)) ls) refl n
             go false e = refl
     room (some i) e m = set-ordered ls i r o k h
 
-    go : (f : Option ℕ) → firstOf (renewedBy (renewalOf r)) ls ≡ f → (leb 64 (present ls) && not (isSome f)) ≡ false
+    go : (f : Option ℕ) → firstOf (renewedBy (renewalOf r)) ls ≡ f
+        → (leb leaseLimit (present ls) && not (isSome f)) ≡ false
         → Ordered (maybe (placedIn r ls) (extended (expiryOf r) ls) f)
     go none e m = room (firstOf vacant ls) refl m
     go (some i) e m =

@@ -11,7 +11,7 @@ use lib.Dec.{ltb}
 use borrow.Author.Tests.{ltb-true, ltb-false}
 use Rattle.octets.specs.Numbers.{numberAt, number, digits}
 use Rattle.octets.proofs.NumberLaws.{length-digits}
-use Rattle.format.specs.Layout.{ownerOf, expiryOf, fixedPlaces, recordSize}
+use Rattle.format.specs.Layout.{ownerOf, expiryOf, expiryAt, renewalAt, fixedPlaces, recordSize}
 use Rattle.format.specs.Container.{held, recordOk, lastHeld}
 use Rattle.octets.specs.Lists.{Each, maybe}
 use Rattle.rules.specs.Leasing.{vacant, firstOf, later, withLast, trim, present}
@@ -76,8 +76,8 @@ length-later x r h = simp (length-append, length-digits, length-take, length-dro
 
 pub owner-later : (x : ℕ) (r : List ℕ) → length r ≡ recordSize → ownerOf (later x r) ≡ ownerOf r
 unfolding later ownerOf numberAt
-owner-later x r h = ap number (take-at (take 4 r) (digits 4 (max (expiryOf r) x)
-    ++ drop 8 r) 4 (length-take-le 4 r (omega arith)))
+owner-later x r h = ap number (take-at (take expiryAt r) (digits 4 (max (expiryOf r) x)
+    ++ drop renewalAt r) expiryAt (length-take-le expiryAt r (omega arith)))
 
 pub held-later : (x : ℕ) (r : List ℕ) → length r ≡ recordSize → held (later x r) ≡ held r
 unfolding held
@@ -100,14 +100,14 @@ last-set (x ∷ (y ∷ ls)) (suc (suc i)) r h k = last-set (y ∷ ls) (suc i) r 
 
 pub last-drop-set : (ls : List (List ℕ)) (i : ℕ) (r : List ℕ) → held r ≡ true → lastHeld (drop fixedPlaces ls) ≡ true
     → lastHeld (drop fixedPlaces (set ls i r)) ≡ true
-last-drop-set ls i r h k = go (ltb i 4) refl
+last-drop-set ls i r h k = go (ltb i fixedPlaces) refl
   where
-    go : (t : Bool) → ltb i 4 ≡ t → lastHeld (drop fixedPlaces (set ls i r)) ≡ true
-    go true e = rw (drop-set-lt 4 ls i r (ltb-true i 4 e)) k
+    go : (t : Bool) → ltb i fixedPlaces ≡ t → lastHeld (drop fixedPlaces (set ls i r)) ≡ true
+    go true e = rw (drop-set-lt fixedPlaces ls i r (ltb-true i fixedPlaces e)) k
     go false e =
-        let g : 4 ≤ i = ltb-false i 4 e in
-        let z : i ≡ 4 + (i - 4) = omega arith in
-        rw (z, drop-set-add 4 ls (i - 4) r) (last-set (drop fixedPlaces ls) (i - 4) r h k)
+        let g : fixedPlaces ≤ i = ltb-false i fixedPlaces e in
+        let z : i ≡ fixedPlaces + (i - fixedPlaces) = omega arith in
+        rw (z, drop-set-add fixedPlaces ls (i - fixedPlaces) r) (last-set (drop fixedPlaces ls) (i - fixedPlaces) r h k)
 
 pub last-snoc : (ls : List (List ℕ)) (r : List ℕ) → lastHeld (ls ++ (r ∷ [])) ≡ held r
 unfolding lastHeld

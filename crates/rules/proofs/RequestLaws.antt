@@ -3,13 +3,14 @@ use mathlib.Core.Path.{_≡_, refl}
 use mathlib.Core.Bool.{Bool, true, false, _&&_, false≢true}
 use mathlib.Core.List.{List}
 use mathlib.Core.Option.{Option, none, some}
-use Prim.Native.Nat.{ℕ, _≤_}
+use Prim.Native.Nat.{ℕ, _+_, _≤_}
 use native.Mathlib.Omega.{arith}
 use lib.ListN.{length, take, drop, length-drop}
 use lib.Dec.{leb, eqb}
 use borrow.Author.Tests.{leb-true, eqb-true}
 use Rattle.octets.specs.Numbers.{numberAt}
 use Rattle.format.specs.Container.{held}
+use Rattle.format.specs.Layout.{recordSize, secretSize}
 use Rattle.rules.specs.Requests.{Request, add, renew, cancel, read, requestLimit, testWriteOk, testWriteOf}
 use Rattle.rules.specs.Requests.{addOk, renewOk, cancelOk, readOk, readCount, readsAt, readsFrom, kindOf}
 use Rattle.rules.specs.Requests.{byKind, requestOf}
@@ -20,7 +21,8 @@ pub data Kinds (q : List ℕ) : Type 0 where
   broken : requestOf q ≡ none → Kinds q
   tests : kindOf q ≡ 1 → length q ≤ requestLimit → testWriteOk q ≡ true → requestOf q ≡ some (testWriteOf q) → Kinds q
   adds : kindOf q ≡ 2 → addOk q ≡ true → requestOf q ≡ some (add (drop 1 q)) → Kinds q
-  renews : kindOf q ≡ 3 → renewOk q ≡ true → requestOf q ≡ some (renew (take 32 (drop 1 q)) (numberAt 4 33 q)) → Kinds q
+  renews : kindOf q ≡ 3 → renewOk q ≡ true
+      → requestOf q ≡ some (renew (take secretSize (drop 1 q)) (numberAt 4 (1 + secretSize) q)) → Kinds q
   cancels : kindOf q ≡ 4 → cancelOk q ≡ true → requestOf q ≡ some (cancel (drop 1 q)) → Kinds q
   reads : kindOf q ≡ 5 → readOk q ≡ true → requestOf q ≡ some (read (readsFrom (readCount q) readsAt q)) → Kinds q
 
@@ -75,14 +77,14 @@ kinds q = short (leb (length q) requestLimit) refl
     short true l = by1 l (eqb (kindOf q) 1) refl
     short false l = broken (rw l)
 
--- an added record has 92 bytes and an owner
+-- an added record has the size of a lease place, and an owner
 pub add-proper : (q : List ℕ) → addOk q ≡ true → Proper (add (drop 1 q))
 unfolding addOk
-add-proper q e = go (eqb (length q) 93) refl e
+add-proper q e = go (eqb (length q) (1 + recordSize)) refl e
   where
-    go : (b : Bool) → eqb (length q) 93 ≡ b → (b && held (drop 1 q)) ≡ true → (length (drop 1 q) ≡ 92)
-        × (held (drop 1 q) ≡ true)
-    go true l e = let n : length q ≡ 93 = eqb-true _ _ l in (rw length-drop (omega arith), e)
+    go : (b : Bool) → eqb (length q) (1 + recordSize) ≡ b → (b && held (drop 1 q)) ≡ true
+        → (length (drop 1 q) ≡ recordSize) × (held (drop 1 q) ≡ true)
+    go true l e = let n : length q ≡ 1 + recordSize = eqb-true _ _ l in (rw length-drop (omega arith), e)
     go false l e = absurd (false≢true e)
 
 abbrev pub ProperOption : Option Request → Type 0

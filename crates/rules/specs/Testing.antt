@@ -59,5 +59,8 @@ unfoldable pub holds : List ℕ → Test → Bool
 holds d t = decides (t .opcode) (order (testPiece d t) (t .specimen))
 
 -- A reply: a table of 4-byte lengths, one for each piece, then the pieces.
+abbrev pub lengthSize : ℕ
+lengthSize = 4
+
 unfoldable pub replyOf : List (List ℕ) → List ℕ
-replyOf ps = join (map (λ s. digits 4 (length s)) ps) ++ join ps
+replyOf ps = join (map (λ s. digits lengthSize (length s)) ps) ++ join ps

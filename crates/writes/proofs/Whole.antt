@@ -17,7 +17,8 @@ use Rattle.format.specs.Claims.{Valid}
 use Rattle.format.specs.Judging.{Known}
 use Rattle.format.proofs.WellFormed.{used-is}
 use Rattle.format.proofs.RoundTrip.{parts-valid}
-use Rattle.format.proofs.ViewLaws.{formed-laid, laid-encoded, leases-extras}
+use Rattle.format.proofs.KnownLaws.{extras-known}
+use Rattle.format.proofs.ViewLaws.{formed-laid, laid-encoded}
 use Rattle.rules.specs.Requests.{Write}
 use Rattle.rules.specs.Writing.{writeAll, placed, rewritten}
 use Rattle.rules.specs.Sizes.{finalSize, clip, resize}
@@ -55,7 +56,7 @@ used-written : (c d : List ℕ) (f : Frame) → Known c f
     → used (withBytes (partsOf c) d) ≡ dataAt + length d + (countSize + recordSize * f .extras)
 unfolding used withBytes partsOf
 used-written c d f k =
-    rw (leases-extras c, ← k .extras-is) (omega (arith, used-is (length d) (f .extras)))
+    rw (extras-known k) (omega (arith, used-is (length d) (f .extras)))
 
 -- ---- the rewriting
 -- Resized, then the clipped writes: that is the writes in order and then the cut.

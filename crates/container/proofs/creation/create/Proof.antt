@@ -4,6 +4,7 @@ use mathlib.Core.Bool.{true}
 use native.Mathlib.Omega.{arith}
 use lib.ListN.{length}
 use borrow.Author.Tests.{eq-eqb, ne-eqb}
+use Rattle.format.specs.Layout.{nodeSize, secretSize}
 use Rattle.format.specs.Container.{lengthAllowed}
 use Rattle.format.proofs.JudgingLaws.{length-true, too-short, too-long}
 use Rattle.container.proofs.FreshLaws.{create-length, create-lengths, create-magic, create-done}
@@ -39,7 +40,7 @@ returns-3 : tie.Need-returns-3
 returns-3 c =
     let a = c .before .before .before .before .before .before .before .args in
     create-lengths (a .c .now) (a .node .now) (a .enabler .now) _ (allowed (c .before .before))
-    (rw (ne-eqb (length (a .node .now)) 20 (c .before .if3 .taken))) (c .answer3 .ensures)
+    (rw (ne-eqb (length (a .node .now)) nodeSize (c .before .if3 .taken))) (c .answer3 .ensures)
 
 answer-requires-4 : tie.Need-answer-requires-4
 answer-requires-4 c κs = search needs
@@ -49,8 +50,8 @@ returns-4 c =
     let a = c .before .before .before .before .before .before .before .before .args in
     create-lengths (a .c .now) (a .node .now) (a .enabler .now) _ (allowed (c .before .before .before))
     (rw (
-      eq-eqb (length (a .node .now)) 20 (c .before .before .if3 .left),
-      ne-eqb (length (a .enabler .now)) 32
+      eq-eqb (length (a .node .now)) nodeSize (c .before .before .if3 .left),
+      ne-eqb (length (a .enabler .now)) secretSize
           (c .before .if4 .taken),
     )) (c .answer4 .ensures)
 

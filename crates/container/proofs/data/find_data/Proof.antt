@@ -3,7 +3,7 @@ use mathlib.Core.Path.{subst}
 use native.Mathlib.Omega.{arith}
 use Rattle.format.specs.Judging.{Judges}
 use Rattle.format.proofs.JudgingLaws.{judged-formed}
-use Rattle.container.proofs.KnownLaws.{known-room}
+use Rattle.format.proofs.KnownLaws.{known-room}
 use Rattle.container.proofs.DataLaws.{lent-length, lent-malformed, lent-formed}
 use borrow.Author.Needs.{needs}
 use Rattle.container.proofs.data.find_data.Statement.{statement}

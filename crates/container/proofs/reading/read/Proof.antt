@@ -1,8 +1,7 @@
 -- Each way out has met the tests of the rows above its own.
-use mathlib.Core.Path.{_≡_, sym, _∙_}
 use native.Mathlib.Omega.{arith}
 use borrow.Author.Tests.{not-true, not-false}
-use Rattle.container.proofs.KnownLaws.{lent, known-room, lent-is, lent-small}
+use Rattle.format.proofs.KnownLaws.{lent, known-room, lent-is, lent-small}
 use Rattle.container.proofs.ReadLaws.{Asked, reply-length, read-unresolved, read-exceeding, read-no-space}
 use Rattle.container.proofs.ReadLaws.{read-done}
 use borrow.Author.Needs.{needs}

@@ -1,13 +1,12 @@
 -- Each form goes to its operation; a broken one is refused.
-use mathlib.Core.Path.{_≡_, sym, ap, subst, _∙_}
+use mathlib.Core.Path.{sym, ap, subst, _∙_}
 use mathlib.Core.List.{List}
 use Prim.Native.Nat.{ℕ}
 use native.Mathlib.Omega.{arith}
 use lib.ListN.{length}
 use Rattle.format.specs.Container.{held}
 use Rattle.format.specs.Parts.{partsOf}
-use Rattle.rules.specs.Requests.{add, renew, cancel, requestOf}
-use Rattle.requests.specs.Cursors.{bodyOf}
+use Rattle.rules.specs.Requests.{add, renew, cancel}
 use Rattle.requests.specs.Forms.{Takes}
 use Rattle.requests.proofs.CursorLaws.{body-length}
 use Rattle.leases.specs.Operations.{leaseDone, leaseContainer}

@@ -5,7 +5,7 @@ use mathlib.Core.Bool.{true}
 use native.Mathlib.Omega.{arith}
 use borrow.Author.Tests.{not-true, not-false}
 use Rattle.rules.specs.Outcomes.{replies}
-use Rattle.container.proofs.KnownLaws.{known-room, lent-is, lent-small}
+use Rattle.format.proofs.KnownLaws.{known-room, lent-is, lent-small}
 use Rattle.container.proofs.WriteRequestLaws.{Writing, decided, differs, other, accepted, reply-fits, failed}
 use Rattle.container.proofs.WriteRequestLaws.{done}
 use borrow.Author.Needs.{needs}

@@ -1,9 +1,10 @@
--- The four bytes at p are the owner of the record there; the slice up to p + 92 is the record.
+-- The four bytes at p are the owner of the record there, and the slice is the record.
 use mathlib.Core.Path.{_≡_, sym, ap, _∙_}
 use Prim.Native.Nat.{ℕ, _+_, _-_}
 use lib.ListN.{take, drop}
 use native.Mathlib.Omega.{arith}
 use Rattle.octets.specs.Strings.{allZero}
+use Rattle.format.specs.Layout.{recordSize}
 use Rattle.format.proofs.JudgingLaws.{record-held, record-none}
 use borrow.Author.Needs.{needs}
 use Rattle.format.proofs.judging.record_ok.Statement.{statement}
@@ -33,7 +34,7 @@ all-zero-requires c κs = search needs
 returns-2 : tie.Need-returns-2
 returns-2 c =
     let a = c .before .before .before .before .before .args in
-    let k : a .p + 92 - a .p ≡ 92 = omega arith in
+    let k : a .p + recordSize - a .p ≡ recordSize = omega arith in
     c .all-zero .ensures ∙ ap (λ (n : ℕ). allZero (take n (drop (a .p) (a .c .now)))) k
     ∙ sym (record-none _ _ (sym (c .before .before .before .u32-at .ensures) ∙ c .before .before .if1 .left))
 

@@ -6,6 +6,7 @@ use lib.ListN.{length}
 use Rattle.octets.specs.Strings.{Octets}
 use Rattle.format.specs.Layout.{limit}
 use Rattle.rules.specs.Requests.{entryLimit}
+use Rattle.rules.specs.Testing.{lengthSize}
 use Rattle.replies.proofs.PieceLaws.{Measuring, Reading, measuring-end, measuring-next, measuring-start}
 use Rattle.replies.proofs.PieceLaws.{reading-reach, measuring-bound, reading}
 use Rattle.requests.proofs.FormLaws.{times-next}
@@ -35,7 +36,7 @@ read c = reading (octets c) (c .before .before .entry .ensures) (c .resolve .ens
 -- The length with this piece stays small.
 bound : (c : tie.After-piece Inv-loop μ-loop)
     → let l = c .before .before .before .before .before .before .before .before .before in
-    l .loop .length + (4 + length (c .piece .result .now)) ≤ (4 + limit) * entryLimit
+    l .loop .length + (lengthSize + length (c .piece .result .now)) ≤ (lengthSize + limit) * entryLimit
 bound c =
     let r = c .before .before .before .before .before in
     let t = r .before .before .before in

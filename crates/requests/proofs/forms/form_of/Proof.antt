@@ -2,7 +2,6 @@
 -- The first byte, and the cursor behind it.
 use mathlib.Core.Path.{_≡_, sym, ap, _∙_}
 use Prim.Native.Nat.{ℕ}
-use native.Mathlib.Omega.{arith}
 use lib.ListN.{getD}
 use Rattle.requests.specs.Cursors.{byteAt}
 use Rattle.requests.specs.declared.cursors.Byte.{Byte}

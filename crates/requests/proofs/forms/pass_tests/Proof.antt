@@ -2,7 +2,7 @@
 use mathlib.Core.Path.{_≡_, ap, _∙_}
 use mathlib.Core.Bool.{Bool, _&&_}
 use native.Mathlib.Omega.{arith}
-use Prim.Native.Nat.{ℕ, _+_, _*_, _≤_}
+use Prim.Native.Nat.{_+_, _*_, _≤_}
 use lib.ListN.{length}
 use Rattle.rules.specs.Requests.{entryLimit, testSize, testEntryOk}
 use Rattle.requests.proofs.FormLaws.{Testing, testing-start, testing-next, testing-end, test-entry-ok}

@@ -1,7 +1,7 @@
 -- The invariant: what is left of the table, with what has been found, is the whole.
-use mathlib.Core.Path.{_≡_, ap, _∙_}
+use mathlib.Core.Path.{_≡_, ap}
 use native.Mathlib.Omega.{arith}
-use Prim.Native.Nat.{ℕ, _+_, _*_, _≤_}
+use Prim.Native.Nat.{_+_, _*_, _≤_}
 use lib.ListN.{length}
 use Rattle.rules.specs.Requests.{entryLimit, entrySize}
 use Rattle.requests.proofs.FormLaws.{Adding, adding-start, adding-next, adding-end, times-next, bodies-most}

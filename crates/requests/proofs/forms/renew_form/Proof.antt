@@ -1,7 +1,7 @@
 -- By the length.
 use mathlib.Core.Path.{_≡_, ap, _∙_}
 use native.Mathlib.Omega.{arith}
-use Prim.Native.Nat.{ℕ, _+_}
+use Prim.Native.Nat.{ℕ}
 use Rattle.octets.specs.Numbers.{numberAt}
 use Rattle.format.specs.Layout.{secretSize}
 use Rattle.requests.specs.Cursors.{bodyAt}

@@ -6,7 +6,7 @@ use native.Mathlib.Omega.{arith}
 use Prim.Native.Nat.{_*_, _≤_}
 use borrow.Author.Tests.{not-true, not-false}
 use Rattle.octets.specs.Strings.{Octets}
-use Rattle.rules.specs.Requests.{testsAt, writesAt, testCount, writeCount, cutFlag, newLength, cutOk}
+use Rattle.rules.specs.Requests.{testsAt, writesAt, testCount, writeCount, cutFlag, newLength, cutOk, entryLimit}
 use Rattle.requests.specs.declared.cursors.Body.{Body}
 use Rattle.requests.specs.declared.forms.TestsPassed.{TestsPassed}
 use Rattle.requests.specs.declared.forms.WritesPassed.{WritesPassed}
@@ -58,8 +58,8 @@ octets c =
           .shared-slice-known .given i,
     )
 
-small : (c : tie.After-pass-writes) → (c .before .before .before .pass-tests .result .length ≤ 65536 * 16)
-    × (c .pass-writes .result .length ≤ 4294967296 * 16)
+small : (c : tie.After-pass-writes) → (c .before .before .before .pass-tests .result .length ≤ 65536 * entryLimit)
+    × (c .pass-writes .result .length ≤ 4294967296 * entryLimit)
 small c =
     let q = c .before .before .before .before .before .before .before .before .before .before .before .before .before
     .args .q .now in

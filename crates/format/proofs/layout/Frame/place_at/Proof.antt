@@ -1,5 +1,4 @@
 -- The first four places are fixed, the others follow the count.
-use mathlib.Core.Path.{_≡_}
 use native.Mathlib.Omega.{arith}
 use borrow.Author.Tests.{lt-ltb, le-ltb}
 use Rattle.format.specs.Layout.{placeAt}

@@ -1,5 +1,4 @@
 -- Each field is what its callee promises.
-use mathlib.Core.Path.{_∙_}
 use Rattle.requests.proofs.CursorLaws.{entry-made}
 use borrow.Author.Needs.{needs}
 use Rattle.requests.proofs.cursors.Cursor.entry.Statement.{statement}

@@ -1,8 +1,8 @@
 -- Whether the row applies.
 use borrow.Author.Tests.{lt-ltb, le-ltb}
 use Rattle.octets.specs.Rows.{firstRow}
-use Rattle.container.proofs.writing.fit.Statement.{statement}
-use Rattle.container.proofs.writing.fit.Tie as tie
+use Rattle.verdicts.proofs.writing.fit.Statement.{statement}
+use Rattle.verdicts.proofs.writing.fit.Tie as tie
 
 returns : tie.Need-returns
 unfolding firstRow

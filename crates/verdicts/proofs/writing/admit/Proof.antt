@@ -1,7 +1,6 @@
 -- Each exit is the first row that applies.
 -- What the comparison of the two enablers says.
 use mathlib.Core.Path.{_≡_, sym, ap, _∙_}
-use mathlib.Core.Bool.{Bool}
 use mathlib.Core.List.{List}
 use Prim.Native.Nat.{ℕ}
 use native.Mathlib.Omega.{arith}
@@ -13,8 +12,8 @@ use Rattle.format.specs.Layout.{enablerOf}
 use Rattle.requests.specs.Cursors.{bodyOf}
 use Rattle.requests.proofs.CursorLaws.{body-length}
 use borrow.Author.Needs.{needs}
-use Rattle.container.proofs.writing.admit.Statement.{statement}
-use Rattle.container.proofs.writing.admit.Tie as tie
+use Rattle.verdicts.proofs.writing.admit.Statement.{statement}
+use Rattle.verdicts.proofs.writing.admit.Tie as tie
 
 enablers : (c : tie.After-same) → c .same .result
     ≡ same (bodyOf (c .before .before .before .before .before .before .args .enabler)

@@ -1,8 +1,8 @@
 -- A verdict of 0 has room.
-use Rattle.container.proofs.WriteRequestLaws.{room}
+use Rattle.verdicts.proofs.VerdictLaws.{room}
 use borrow.Author.Needs.{needs}
-use Rattle.container.proofs.writing.commit.Statement.{statement}
-use Rattle.container.proofs.writing.commit.Tie as tie
+use Rattle.verdicts.proofs.writing.commit.Statement.{statement}
+use Rattle.verdicts.proofs.writing.commit.Tie as tie
 
 rewrite-requires : tie.Need-rewrite-requires
 rewrite-requires c κs = let s = c .before .before .before in

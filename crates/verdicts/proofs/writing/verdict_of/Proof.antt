@@ -1,13 +1,13 @@
 -- The three groups of rows in turn, on what has been measured.
-use mathlib.Core.Path.{_≡_, _∙_}
+use mathlib.Core.Path.{_≡_}
 use native.Mathlib.Omega.{arith}
 use Rattle.octets.specs.Rows.{firstRow}
-use Rattle.container.proofs.KnownLaws.{lent, known-room, lent-is, lent-small}
-use Rattle.container.proofs.WriteRequestLaws.{Found, final-bound, admits, fits, admit-verdict, find-verdict}
-use Rattle.container.proofs.WriteRequestLaws.{fit-verdict}
+use Rattle.format.proofs.KnownLaws.{lent, known-room, lent-is, lent-small}
+use Rattle.verdicts.proofs.VerdictLaws.{Found, final-bound, admits, fits, admit-verdict, find-verdict}
+use Rattle.verdicts.proofs.VerdictLaws.{fit-verdict}
 use borrow.Author.Needs.{needs}
-use Rattle.container.proofs.writing.verdict_of.Statement.{statement}
-use Rattle.container.proofs.writing.verdict_of.Tie as tie
+use Rattle.verdicts.proofs.writing.verdict_of.Statement.{statement}
+use Rattle.verdicts.proofs.writing.verdict_of.Tie as tie
 
 found : (c : tie.After-cut-size) → let a = c .before .before .before .before .before .before .before .args in
     Found (a .c .now) (a .q .now) (lent (a .c .now) (c .before .before .before .before .data-end .result)) (a .frame)

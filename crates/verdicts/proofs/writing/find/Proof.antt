@@ -3,8 +3,8 @@ use mathlib.Core.Path.{sym, _∙_}
 use borrow.Author.Tests.{not-true, not-false, lt-ltb, le-ltb}
 use Rattle.octets.specs.Rows.{firstRow}
 use borrow.Author.Needs.{needs}
-use Rattle.container.proofs.writing.find.Statement.{statement}
-use Rattle.container.proofs.writing.find.Tie as tie
+use Rattle.verdicts.proofs.writing.find.Statement.{statement}
+use Rattle.verdicts.proofs.writing.find.Tie as tie
 
 returns : tie.Need-returns
 unfolding firstRow

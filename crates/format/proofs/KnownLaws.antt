@@ -1,0 +1,48 @@
+-- The numbers of a container that has been judged, and its data as the code lends it. Assumes nothing.
+use mathlib.Core.Path.{_≡_, sym, ap, _∙_}
+use mathlib.Core.List.{List}
+use Prim.Native.Nat.{ℕ, _+_, _-_, _*_, _≤_}
+use native.Mathlib.Omega.{arith}
+use lib.ListN.{length, take, drop}
+use Rattle.format.specs.declared.layout.Frame.{Frame}
+use Rattle.format.specs.Judging.{Known}
+use Rattle.format.specs.Layout.{dataAt, dataOf, least, limit, recordSize, sizeOf, extrasOf, extraLimit, leasesOf}
+use Rattle.format.specs.Parts.{extras}
+use Rattle.format.proofs.WellFormed.{data-length, length-leases}
+use Rattle.format.proofs.JudgingLaws.{known-most, known-sized}
+
+-- The slice of the data, up to their end e.
+abbrev pub lent : List ℕ → ℕ → List ℕ
+lent c e = take (e - dataAt) (drop dataAt c)
+
+pub leases-extras : (c : List ℕ) → extras (leasesOf c) ≡ extrasOf c
+unfolding extras
+leases-extras c = omega (arith, length-leases c)
+
+module _ {c : List ℕ} {f : Frame} (K : Known c f) where
+  -- The frame's numbers, as the fields have them.
+  pub known-size : f .size ≡ sizeOf c
+  known-size = ap (λ (x : Frame). x .size) (K .is)
+
+  pub known-extras : f .extras ≡ extrasOf c
+  known-extras = ap (λ (x : Frame). x .extras) (K .is)
+
+  -- The same, as the parts have them.
+  pub size-known : length (dataOf c) ≡ f .size
+  size-known = data-length c (K .formed) ∙ sym known-size
+
+  pub extras-known : extras (leasesOf c) ≡ f .extras
+  extras-known = leases-extras c ∙ sym known-extras
+
+  pub known-room : (least + f .size + recordSize * f .extras ≤ length c) × (length c ≤ limit) × (f .extras ≤ extraLimit)
+  known-room = let z = known-sized c f K in (z .fits, known-most c f K, z .few)
+
+  module _ {e : ℕ} (E : e ≡ dataAt + f .size) where
+    pub lent-is : lent c e ≡ dataOf c
+    unfolding dataOf
+    lent-is =
+        let n : e - dataAt ≡ sizeOf c = omega (arith, known-size) in
+        ap (λ (k : ℕ). take k (drop dataAt c)) n
+
+    pub lent-small : length (lent c e) ≤ limit
+    lent-small = rw (lent-is, size-known) (omega (arith, known-room))

@@ -1,0 +1,2 @@
+-- Laws of the verdict, which the proofs of this crate and of those above cite.
+pub mod VerdictLaws

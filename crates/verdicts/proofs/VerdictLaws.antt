@@ -1,0 +1,209 @@
+-- A test-and-write judged group by group, and what a verdict of 0 leaves room for. Assumes nothing.
+use mathlib.Core.Path.{_≡_, refl, sym, ap, _∙_}
+use mathlib.Core.Bool.{Bool, not, _&&_}
+use mathlib.Core.List.{List, [], _∷_, _++_, map}
+use mathlib.Core.Option.{Option, none, some}
+use Prim.Native.Nat.{ℕ, zero, suc, _+_, _≤_, max}
+use native.Mathlib.Omega.{arith}
+use lib.Dec.{ltb}
+use lib.ListN.{length, take, drop, length-take, length-drop}
+use Rattle.format.specs.declared.layout.Frame.{Frame}
+use Rattle.requests.specs.declared.forms.Parted.{Parted}
+use Rattle.replies.specs.declared.pieces.Measured.{Measured}
+use Rattle.writes.specs.declared.sizes.Reached.{Reached}
+use Rattle.verdicts.specs.declared.writing.Verdict.{Verdict}
+use Rattle.verdicts.specs.Writing.{Decided, verdictOf}
+use Rattle.format.specs.Judging.{Known}
+use Rattle.octets.proofs.RowLaws.{Numbered, rows-first, rows-second}
+use Rattle.rules.specs.Requests.{Request, Write, writesFrom, entryCount, entryOffset, entrySize}
+use Rattle.octets.specs.Rows.{Row, firstRow, row}
+use Rattle.rules.specs.Outcomes.{after, replyTo, rows, admitRows}
+use Rattle.rules.specs.Outcomes.{withBytes, findRows, roomRows}
+use Rattle.requests.specs.Forms.{cutIn, PartedIn, writeIn, testsIn, writesIn}
+use Rattle.rules.specs.Sizes.{cutSize, finalSize, sizeAll}
+use Rattle.format.specs.Layout.{dataOf, usedLength, enablerOf}
+use Rattle.octets.specs.Lists.{every}
+use Rattle.rules.specs.Writing.{grow, rewritten, placed, writesResolve}
+use Rattle.format.specs.Parts.{partsOf, used, Parts, extras}
+use Rattle.replies.specs.Pieces.{piecesIn, measuredOf}
+use Rattle.writes.specs.Rewrite.{Final}
+use Rattle.rules.specs.Testing.{resolves, testPiece, holds, position}
+use Rattle.format.proofs.KnownLaws.{size-known, extras-known}
+use Rattle.rules.proofs.Kept.{after-valid}
+use Rattle.rules.proofs.WriteLaws.{length-cutTo, length-writeAll}
+use Rattle.octets.specs.Strings.{same}
+use Rattle.replies.proofs.PieceLaws.{test-pieces, test-resolve}
+use Rattle.requests.specs.Cursors.{bodyOf}
+use Rattle.format.proofs.RoundTrip.{parts-valid}
+use Rattle.requests.proofs.CursorLaws.{position-below}
+use Rattle.writes.specs.Sizes.{reachedBy}
+use Rattle.rules.proofs.RequestLaws.{tests}
+
+-- ---- the size that the writes reach
+grow-bound : (n at k : ℕ) → grow n at k ≤ max n (at + k)
+unfolding grow
+grow-bound n at zero = omega arith
+grow-bound n at (suc k) = omega arith
+
+reach-bound : (n p b : ℕ) (q : List ℕ) (size : ℕ)
+    → sizeAll (placed (writesFrom n p b q) size) size ≤ max size (2147483648 + length q)
+unfolding sizeAll placed writesFrom
+reach-bound zero p b q size = omega arith
+reach-bound (suc n) p b q size =
+    let k : ℕ = length (take (entryCount p q) (drop b q)) in
+    let l : k ≤ length q = simp (length-take, length-drop) (omega arith) in
+    let g : ℕ = grow size (position (entryOffset p q) size) k in
+    omega (
+      arith,
+      position-below p q size,
+      grow-bound size (position (entryOffset p q) size) k,
+      reach-bound n (p + entrySize) (b + entryCount p q) q g,
+    )
+
+cut-bound : (cut : Option ℕ) (n : ℕ) → cutSize cut n ≤ n
+unfolding cutSize
+cut-bound none n = omega arith
+cut-bound (some m) n = omega arith
+
+-- ---- the lengths after the cut
+length-rewritten : (ws : List Write) (cut : Option ℕ) (d : List ℕ)
+    → length (rewritten ws cut d) ≡ finalSize ws cut (length d)
+unfolding rewritten finalSize
+length-rewritten ws cut d = length-cutTo cut _ ∙ rw length-writeAll
+
+after-size : (p : Parts) (q : List ℕ) (t : Parted)
+    → length (after p (writeIn t q) .bytes) ≡ finalSize (writesIn t q) (cutIn (t .cut)) (length (p .bytes))
+unfolding after withBytes
+after-size p q t = length-rewritten (writesIn t q) (cutIn (t .cut)) (p .bytes)
+
+after-used : (p : Parts) (q : List ℕ) (t : Parted)
+    → used (after p (writeIn t q)) ≡ usedLength (length (after p (writeIn t q) .bytes)) (extras (p .leases))
+unfolding used after withBytes
+after-used p q t = refl
+
+-- ---- the verdict by what the code finds
+-- What is measured first: d, the data as the code takes it; m, what the tests ask; x, what the writes reach; s, the
+-- final size.
+pub record Found (c q d : List ℕ) (f : Frame) (t : Parted) (m : Measured) (x : Reached) (s : ℕ) : Type 0 where
+  pub known : Known c f
+  pub parted : PartedIn q t
+  pub bytes : d ≡ dataOf c
+  pub measured : m ≡ measuredOf (t .tests) q d
+  pub reached : x ≡ reachedBy (writesIn t q) (f .size)
+  pub final : s ≡ cutSize (cutIn (t .cut)) (x .size)
+
+module _ {c q d : List ℕ} {f : Frame} {t : Parted} {m : Measured} {x : Reached} {s : ℕ}
+    (F : Found c q d f t m x s) where
+  abbrev asks : Request
+  asks = writeIn t q
+
+  final-is : length (after (partsOf c) asks .bytes) ≡ s
+  unfolding finalSize partsOf
+  final-is = after-size (partsOf c) q t ∙ rw (size-known (F .known)) (sym (F .final ∙ rw (F .reached)))
+
+  pieces-are : piecesIn (t .tests) q d ≡ map (testPiece (dataOf c)) (testsIn t q)
+  pieces-are =
+      rw (F .bytes, F .parted .tests-stride)
+      (sym (test-pieces (t .tests .count) (t .tests .first .at) (t .specimens .at) q (dataOf c)))
+
+  reply-is : length (replyTo (partsOf c) asks) ≡ m .length
+  unfolding replyTo partsOf
+  reply-is = sym (ap (λ (y : Measured). y .length) (F .measured) ∙ rw pieces-are)
+
+  resolves-is : (every (λ u. resolves (u .offset) (length (dataOf c))) (testsIn t q)
+      && writesResolve (writesIn t q) (length (dataOf c))) ≡ (m .resolves && x .resolves)
+  resolves-is =
+      rw (size-known (F .known), F .measured, F .reached, F .bytes, F .parted .tests-stride, size-known (F .known))
+      (ap (λ (b : Bool). b && writesResolve (writesIn t q) (f .size))
+      (test-resolve (t .tests .count) (t .tests .first .at) (t .specimens .at) q (f .size)))
+
+  used-after : used (after (partsOf c) asks) ≡ usedLength s (f .extras)
+  unfolding partsOf
+  used-after = after-used (partsOf c) q t ∙ rw (final-is, extras-known (F .known))
+
+  pub final-bound : (s ≤ x .size) × (x .size ≤ f .size + 2147483648 + length q)
+  final-bound = (
+    omega (arith, F .final, cut-bound (cutIn (t .cut)) (x .size)),
+    omega (
+      arith,
+      ap (λ (y : Reached). y .size) (F .reached),
+      reach-bound (t .writes .count) (t .writes .first .at) (t .bodies .at) q (f .size),
+    ),
+  )
+
+  -- The three groups of rows, as the code judges them.
+  module _ (space : ℕ) where
+    abbrev pub admits : List Row
+    admits = row 4 (not (m .resolves && x .resolves)) ∷ row 5 (not (same (bodyOf (t .enabler) q) (enablerOf c))) ∷ []
+
+    abbrev pub finds : List Row
+    finds = row 7 (ltb space (m .length)) ∷ row 8 (not (every (holds d) (testsIn t q))) ∷ []
+
+    abbrev pub fits : List Row
+    fits = row 11 (ltb (length c) (usedLength s (f .extras))) ∷ []
+
+    rows-are : rows (partsOf c) asks space ++ roomRows (partsOf c) asks ≡ (admits ++ finds) ++ fits
+    unfolding rows admitRows findRows roomRows partsOf
+    rows-are = rw (resolves-is, reply-is, used-after, F .bytes)
+
+    verdict-is : (k : ℕ) → k ≡ firstRow ((admits ++ finds) ++ fits)
+        → record { number = k; reply = m .length; size = s } ≡ verdictOf (partsOf c) asks space
+    unfolding verdictOf
+    verdict-is k e = sym (rw (rows-are, reply-is, final-is, e))
+
+    admits-numbered : Numbered admits
+    admits-numbered = (omega arith, (omega arith, tt))
+
+    both-numbered : Numbered (admits ++ finds)
+    both-numbered = (omega arith, (omega arith, (omega arith, (omega arith, tt))))
+
+    pub admit-verdict : (k : ℕ) → k ≡ firstRow admits → (k ≡ 0 → ⊥)
+        → record { number = k; reply = m .length; size = s } ≡ verdictOf (partsOf c) asks space
+    admit-verdict k e h =
+        let a : firstRow (admits ++ finds) ≡ k = rows-first admits finds admits-numbered (λ z. h (e ∙ z)) ∙ sym e in
+        verdict-is k (sym (rows-first (admits ++ finds) fits both-numbered (λ z. h (sym a ∙ z)) ∙ a))
+
+    module _ (j : ℕ) (i : j ≡ firstRow admits) (z : j ≡ 0) where
+      after-admit : firstRow (admits ++ finds) ≡ firstRow finds
+      after-admit = rows-second admits finds admits-numbered (sym i ∙ z)
+
+      pub find-verdict : (k : ℕ) → k ≡ firstRow finds → (k ≡ 0 → ⊥)
+          → record { number = k; reply = m .length; size = s } ≡ verdictOf (partsOf c) asks space
+      find-verdict k e h =
+          let a : firstRow (admits ++ finds) ≡ k = after-admit ∙ sym e in
+          verdict-is k (sym (rows-first (admits ++ finds) fits both-numbered (λ y. h (sym a ∙ y)) ∙ a))
+
+      pub fit-verdict : (l k : ℕ) → l ≡ firstRow finds → l ≡ 0 → k ≡ firstRow fits
+          → record { number = k; reply = m .length; size = s } ≡ verdictOf (partsOf c) asks space
+      fit-verdict l k e h g =
+          verdict-is k
+          (sym (rows-second (admits ++ finds) fits both-numbered (after-admit ∙ sym e ∙ h) ∙ sym g))
+
+-- ---- a verdict that is known
+module _ {c q : List ℕ} {f : Frame} {t : Parted} {v : Verdict} (D : Decided c q f t v) where
+  number-decided : v .number
+      ≡ firstRow (rows (partsOf c) (writeIn t q) (D .space) ++ roomRows (partsOf c) (writeIn t q))
+  unfolding verdictOf
+  number-decided = ap (λ (x : Verdict). x .number) (D .verdict)
+
+  size-decided : v .size ≡ length (after (partsOf c) (writeIn t q) .bytes)
+  unfolding verdictOf
+  size-decided = ap (λ (x : Verdict). x .size) (D .verdict)
+
+  used-decided : used (after (partsOf c) (writeIn t q)) ≡ usedLength (v .size) (f .extras)
+  unfolding partsOf
+  used-decided = after-used (partsOf c) q t ∙ rw (extras-known (D .known), ← size-decided)
+
+  fits-decided : v .number ≡ 0 → used (after (partsOf c) (writeIn t q)) ≤ length c
+  unfolding after withBytes partsOf
+  fits-decided e =
+      after-valid (partsOf c) (writeIn t q) (D .space) (parts-valid c (D .known .formed)) tt (sym number-decided
+      ∙ e) .fits
+
+  -- A verdict of 0 has room for the final size.
+  pub room : v .number ≡ 0 → Final q t f (v .size) (length c)
+  unfolding partsOf
+  room e = record {
+    size = size-decided ∙ after-size (partsOf c) q t ∙ rw (size-known (D .known));
+    fits = rw used-decided at (fits-decided e);
+  }

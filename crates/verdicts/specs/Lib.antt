@@ -1,0 +1,2 @@
+-- What the verdict's contracts cite beside the rules.
+pub mod Writing
