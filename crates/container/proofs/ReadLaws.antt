@@ -27,7 +27,7 @@ use Rattle.rules.specs.Testing.{replyOf, exceeds, readPiece, resolves}
 use Rattle.container.specs.Reading.{ReadRequest}
 use Rattle.requests.specs.Forms.{readIn}
 use Rattle.format.specs.Layout.{dataOf}
-use Rattle.octets.specs.Strings.{Octets}
+use Rattle.octets.specs.Facts.{Octets}
 use Rattle.rules.specs.Requests.{Read, readsFrom, requestOf}
 use Rattle.format.proofs.RoundTrip.{encode-parts}
 use Rattle.rules.proofs.OutcomeLaws.{outcome-formed}

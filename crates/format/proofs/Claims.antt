@@ -4,14 +4,14 @@ use Prim.Native.Nat.{ℕ, zero, suc, _+_, _-_}
 use native.Mathlib.Omega.{arith}
 use lib.ListN.{length, take, drop, replicate}
 use Rattle.octets.specs.Numbers.{numberAfter, number, digits}
-use Rattle.octets.specs.Strings.{Octets, join}
+use Rattle.octets.specs.Strings.{join}
+use Rattle.octets.specs.Facts.{Octets, Each}
 use Rattle.octets.proofs.NumberLaws.{octets-digits}
 use Rattle.octets.proofs.StringLaws.{octets-take, octets-drop, octets-append}
 use Rattle.format.specs.Layout.{magic, nodeAt, enablerAt, leasesAt, dataAt, countAt, nodeOf, enablerOf, sizeOf}
 use Rattle.format.specs.Layout.{dataOf, extrasOf, records, leasesOf, countSize, fixedPlaces, recordSize}
 use Rattle.format.specs.Layout.{nodeSize, secretSize, sizeWidth}
 use Rattle.format.specs.Parts.{Parts, extras, used, partsOf, encode}
-use Rattle.octets.specs.Lists.{Each}
 use Rattle.format.specs.Claims.{OctetParts, RoundTrip}
 use Rattle.octets.proofs.ListLaws.{each-append, each-take, each-drop}
 use Rattle.format.proofs.RoundTrip.{encode-parts, parts-valid, parts-encode, encode-formed, parts-determine}

@@ -8,7 +8,8 @@ use native.Mathlib.Omega.{arith}
 use lib.ListN.{length, take, drop, replicate, length-append, length-drop, length-replicate, take-append-drop}
 use lib.Seq.{length-take-le, drop-drop, take-at, drop-at}
 use Rattle.octets.specs.Numbers.{numberAfter, number, numberAt, digits}
-use Rattle.octets.specs.Strings.{Octets, allZero, join}
+use Rattle.octets.specs.Strings.{allZero, join}
+use Rattle.octets.specs.Facts.{Octets, Each}
 use Rattle.octets.proofs.NumberLaws.{length-digits, number-digits, digits-number}
 use Rattle.octets.proofs.StringLaws.{same-eq, same-refl, zeros-are, allZero-replicate, octets-take, octets-drop}
 use Rattle.format.specs.Layout.{magic, least, limit, nodeAt, enablerAt, sizeAt, offsetAt, leasesAt, dataAt}
@@ -18,7 +19,7 @@ use Rattle.format.specs.Layout.{nodeSize, secretSize}
 use Rattle.format.specs.Container.{held, recordOk, lastHeld, wellFormed}
 use Rattle.format.specs.Parts.{Parts, extras, used, partsOf, encode, noLease, fresh, headOf, frontOf, tailOf}
 use Rattle.format.specs.Claims.{Place, Valid}
-use Rattle.octets.specs.Lists.{Each, every}
+use Rattle.octets.specs.Lists.{every}
 use Rattle.octets.proofs.ListLaws.{both, each-append, each-drop, each-take}
 use Rattle.format.proofs.WellFormed.{Fields, Contents, formed-facts, formed-true, count-is, used-is}
 use Rattle.format.proofs.WellFormed.{length-records, records-shift, length-leases, join-records, length-join}

@@ -12,7 +12,7 @@ use Rattle.format.specs.Claims.{Valid}
 use Rattle.format.specs.Layout.{leasesAt, dataAt, countSize, recordSize, dataOf}
 use Rattle.octets.proofs.NumberLaws.{length-digits}
 use Rattle.format.specs.Judging.{Known}
-use Rattle.octets.specs.Strings.{Octets}
+use Rattle.octets.specs.Facts.{Octets}
 use Rattle.format.proofs.RoundTrip.{parts-valid, encode-parts, four-bytes, extra-bytes}
 use Rattle.format.proofs.WellFormed.{used-is}
 use Rattle.format.proofs.JudgingLaws.{known-sized}

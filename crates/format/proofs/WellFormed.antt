@@ -14,7 +14,8 @@ use Rattle.format.specs.Layout.{magic, least, limit, offsetAt, leasesAt,
 use Rattle.format.specs.Layout.{dataOf, extrasOf, leasesOf, recordSize, records, fixedPlaces, countSize}
 use Rattle.format.specs.Layout.{nodeAt, sizeWidth, extraLimit}
 use Rattle.format.specs.Container.{lengthAllowed, held, recordOk, lastHeld, fieldsOk, contentsOk, wellFormed}
-use Rattle.octets.specs.Lists.{Each, every}
+use Rattle.octets.specs.Lists.{every}
+use Rattle.octets.specs.Facts.{Each}
 use Rattle.octets.proofs.ListLaws.{both, by-refuting, and-assoc}
 
 -- ---- the fields

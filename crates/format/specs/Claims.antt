@@ -4,11 +4,10 @@ use mathlib.Core.Path.{_≡_}
 use mathlib.Core.Bool.{true}
 use mathlib.Core.List.{List}
 use lib.ListN.{length, drop}
-use Rattle.octets.specs.Lists.{Each}
+use Rattle.octets.specs.Facts.{Each, Octets}
 use Rattle.format.specs.Layout.{nodeSize, secretSize, recordSize, fixedPlaces, leaseLimit, least, limit}
 use Rattle.format.specs.Container.{recordOk, lastHeld, wellFormed}
 use Rattle.format.specs.Parts.{Parts, used, encode, partsOf}
-use Rattle.octets.specs.Strings.{Octets}
 
 -- A lease place obeys the rules: 92 bytes, all zero where the owner is 0.
 pub record Place (r : List ℕ) : Type 0 where

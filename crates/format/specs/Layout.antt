@@ -1,11 +1,9 @@
 -- The layout of a container (document 01, "The container"): a table of fields in one buffer, numbers big-endian.
 -- Every definition is total: of bytes that are no container it says something, and `wellFormed` says that they are
 -- none.
-use Prim.Native.Nat.{ℕ, zero, suc, _+_, _-_, _*_}
-use mathlib.Core.Bool.{cond}
+use Prim.Native.Nat.{ℕ, zero, suc, _+_, _*_}
 use mathlib.Core.List.{List, [], _∷_, _++_}
 use lib.ListN.{take, drop}
-use lib.Dec.{ltb}
 use Rattle.octets.specs.Numbers.{numberAt}
 
 -- "tahoe mutable container v1", then 0A 75 09 44 03 8E.
@@ -121,8 +119,3 @@ renewalOf r = take secretSize (drop renewalAt r)
 
 unfoldable pub cancelOf : List ℕ → List ℕ
 cancelOf r = take secretSize (drop cancelAt r)
-
--- Where lease place i begins: the four, then the extras behind the count.
-unfoldable pub placeAt : ℕ → ℕ → ℕ
-placeAt s i =
-    cond (ltb i fixedPlaces) (leasesAt + recordSize * i) (countAt s + countSize + recordSize * (i - fixedPlaces))

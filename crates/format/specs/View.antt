@@ -1,9 +1,12 @@
--- A container's bytes as the code that changes them sees them: head, data, tail, zeros.
-use Prim.Native.Nat.{ℕ, _+_, _-_, _≤_}
+-- A container's bytes as the code that changes them sees them: head, data, tail, zeros; and where each lease place
+-- stands.
+use Prim.Native.Nat.{ℕ, _+_, _-_, _*_, _≤_}
 use mathlib.Core.Path.{_≡_}
+use mathlib.Core.Bool.{cond}
 use mathlib.Core.List.{List, _++_}
 use lib.ListN.{length, replicate}
-use Rattle.format.specs.Layout.{dataAt}
+use lib.Dec.{ltb}
+use Rattle.format.specs.Layout.{leasesAt, dataAt, countAt, countSize, recordSize, fixedPlaces}
 
 -- c has n bytes: a head h, s bytes of data d, a tail t of k bytes, and zeros.
 pub record Laid (n s k : ℕ) (c h d t : List ℕ) : Type 0 where
@@ -12,3 +15,8 @@ pub record Laid (n s k : ℕ) (c h d t : List ℕ) : Type 0 where
   pub sized : length d ≡ s
   pub tail : length t ≡ k
   pub fits : dataAt + s + k ≤ n
+
+-- Where lease place i begins beside s bytes of data: the four, then the extras behind the count.
+unfoldable pub placeAt : ℕ → ℕ → ℕ
+placeAt s i =
+    cond (ltb i fixedPlaces) (leasesAt + recordSize * i) (countAt s + countSize + recordSize * (i - fixedPlaces))

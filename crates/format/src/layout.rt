@@ -1,7 +1,8 @@
 // The table of the container: sizes, places and limits, each derived from those before it.
 ghost use mathlib.Core.Path.{_≡_};
 ghost use Prim.Native.Nat.{_+_, _≤_};
-ghost use Rattle.format.specs.Layout.{countSize, leaseLimit, dataAt, limit, countAt, usedLength, placeAt};
+ghost use Rattle.format.specs.Layout.{countSize, leaseLimit, dataAt, limit, countAt, usedLength};
+ghost use Rattle.format.specs.View.{placeAt};
 
 // What a container begins with.
 pub const MAGIC: [u8; 32] = *b"tahoe mutable container v1\x0a\x75\x09\x44\x03\x8e";

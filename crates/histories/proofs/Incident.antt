@@ -11,7 +11,9 @@ use lib.Dec.{leb}
 use lib.IntN.{pos}
 use borrow.Author.Tests.{le-leb}
 use Rattle.format.specs.Layout.{dataOf}
-use Rattle.octets.specs.Lists.{Each, orElse, lastSaid, newer}
+use Rattle.octets.specs.Lists.{orElse}
+use Rattle.octets.specs.Facts.{Each}
+use Rattle.octets.specs.Last.{lastSaid, newer}
 use Rattle.rules.specs.Testing.{resolve, position, piece}
 use Rattle.rules.specs.Writing.{Placed, placed}
 use Rattle.rules.specs.Outcomes.{createOutcome, createdContainer}

@@ -8,7 +8,7 @@ use mathlib.Core.Option.{some}
 use lib.ListN.{length, getD}
 use lib.IntN.{pos}
 use Rattle.format.specs.Layout.{dataOf}
-use Rattle.octets.specs.Lists.{Each}
+use Rattle.octets.specs.Facts.{Each}
 use Rattle.rules.specs.Requests.{Test, Write, testWrite, requestOf}
 use Rattle.rules.specs.Testing.{piece}
 use Rattle.rules.specs.Changes.{covers, Change, wrote, cutAt, byteAfter}

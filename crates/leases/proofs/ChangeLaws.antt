@@ -10,15 +10,16 @@ use lib.ListN.{take-append-drop}
 use lib.Seq.{length-take-le, take-at, drop-at, drop-drop, take-append-le, drop-append-le, set-getD}
 use lib.Seq.{take-set-le, take-set-lt, drop-set-lt, drop-set-add}
 use Rattle.octets.specs.Numbers.{numberAt, digits, number}
-use Rattle.octets.specs.Strings.{Octets, join}
+use Rattle.octets.specs.Strings.{join}
+use Rattle.octets.specs.Facts.{Octets, Each}
 use Rattle.octets.specs.Moves.{put}
 use Rattle.octets.proofs.NumberLaws.{length-digits}
 use Rattle.octets.proofs.StringLaws.{zeros-are, octets-take, octets-drop}
-use Rattle.format.specs.Layout.{expiryOf, countSize, recordSize, fixedPlaces, leasesAt, dataAt, leasesOf, placeAt}
+use Rattle.format.specs.Layout.{expiryOf, countSize, recordSize, fixedPlaces, leasesAt, dataAt, leasesOf}
+use Rattle.format.specs.View.{placeAt}
 use Rattle.format.specs.Layout.{dataOf, usedLength, countAt, records, expiryAt, renewalAt}
 use Rattle.format.specs.Container.{held, recordOk}
 use Rattle.format.specs.Claims.{Place, Valid}
-use Rattle.octets.specs.Lists.{Each}
 use Rattle.format.specs.Parts.{extras, Parts, frontOf, headOf, tailOf, partsOf, used, noLease}
 use Rattle.octets.proofs.ListLaws.{each-take, each-drop}
 use Rattle.format.proofs.RoundTrip.{digits-at, field-then, parts-valid, places-sizes, no-lease, records-back}

@@ -5,7 +5,9 @@ use mathlib.Core.List.{List, [], _∷_, _++_}
 use mathlib.Core.Option.{Option, none, some}
 use Prim.Native.Nat.{ℕ, zero, suc}
 use lib.ListN.{take, drop}
-use Rattle.octets.specs.Lists.{Each, every, isSome, orElse, newer, lastSaid}
+use Rattle.octets.specs.Lists.{every, isSome, orElse}
+use Rattle.octets.specs.Facts.{Each}
+use Rattle.octets.specs.Last.{newer, lastSaid}
 
 -- ---- tests in a row
 pub both : (a b : Bool) → (a && b) ≡ true → (a ≡ true) × (b ≡ true)

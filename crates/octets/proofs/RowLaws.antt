@@ -6,7 +6,7 @@ use Prim.Native.Nat.{ℕ, _<_}
 use native.Mathlib.Omega.{arith}
 use lib.Dec.{eqb}
 use borrow.Author.Tests.{eq-eqb, ne-eqb}
-use Rattle.octets.specs.Lists.{Each}
+use Rattle.octets.specs.Facts.{Each}
 use Rattle.octets.specs.Rows.{Row, row, firstRow}
 
 -- Every row has a number above 0.

@@ -12,7 +12,8 @@ use lib.ListN.{length, take, drop, length-append, length-take, length-drop}
 use Rattle.octets.specs.Lists.{every, anyOf}
 use Rattle.octets.specs.Moves.{put}
 use Rattle.octets.specs.Numbers.{digits}
-use Rattle.octets.specs.Strings.{Octets, order, join}
+use Rattle.octets.specs.Strings.{order, join}
+use Rattle.octets.specs.Facts.{Octets}
 use Rattle.octets.proofs.ListLaws.{and-assoc, and-true}
 use Rattle.octets.proofs.MoveLaws.{put-put, put-end, put-apart, put-length}
 use Rattle.octets.proofs.NumberLaws.{length-digits}

@@ -20,7 +20,7 @@ use Rattle.requests.specs.declared.cursors.Entry.{Entry}
 use Rattle.requests.specs.Offsets.{resolvedOf}
 use Rattle.rules.specs.Testing.{resolve, resolves, position}
 use Rattle.octets.specs.Lists.{isSome, orElse}
-use Rattle.octets.specs.Strings.{Octets}
+use Rattle.octets.specs.Facts.{Octets}
 use Rattle.octets.specs.Numbers.{numberAt, signed}
 use Rattle.octets.proofs.NumberLaws.{number-bound}
 use Rattle.octets.proofs.StringLaws.{octets-take, octets-drop}

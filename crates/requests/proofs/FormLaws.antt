@@ -18,7 +18,7 @@ use Rattle.requests.specs.declared.forms.TestsPassed.{TestsPassed}
 use Rattle.requests.specs.declared.forms.WritesPassed.{WritesPassed}
 use Rattle.requests.specs.declared.forms.Form.the-variants.{Broken, Add, Renew, Cancel}
 use Rattle.requests.specs.declared.forms.Form.the-variants.{Read as ReadForm}
-use Rattle.octets.specs.Strings.{Octets}
+use Rattle.octets.specs.Facts.{Octets}
 use Rattle.rules.specs.Requests.{allFrom, byKind, cutOf, cutOk, entryCount, entrySize, requestLimit, specimensAt}
 use Rattle.rules.specs.Requests.{sumFrom, testCount, testEntryOk, testSize, testWriteEnd, testWriteOf, testWriteOk}
 use Rattle.rules.specs.Requests.{writesAt, Request, entryLimit, entrySpecimen, newDataAt, secretAt, testsAt}

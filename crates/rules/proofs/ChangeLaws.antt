@@ -12,7 +12,8 @@ use Rattle.rules.specs.Writing.{writeAt, Placed, writeAll, cutTo, rewrit
 use Rattle.rules.specs.Changes.{covers, Change, wrote, cutAt, sizeBy, sizeAfter, says, cutChange, writeChanges}
 use Rattle.rules.specs.Changes.{changesOf}
 use Rattle.rules.proofs.WriteLaws.{length-write, at-write, at-take-past}
-use Rattle.octets.specs.Lists.{orElse, lastSaid, maybe}
+use Rattle.octets.specs.Lists.{orElse, maybe}
+use Rattle.octets.specs.Last.{lastSaid}
 use Rattle.rules.specs.Outcomes.{afterOf, after, withBytes, withLeases}
 use Rattle.octets.proofs.ListLaws.{orElse-newer}
 use Rattle.rules.specs.Requests.{testWrite, add, renew, cancel, read, Request}

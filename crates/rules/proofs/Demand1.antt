@@ -24,7 +24,8 @@ use Rattle.rules.specs.Outcomes.{withBytes, withLeases, after, afterOf, 
 use Rattle.rules.specs.Outcomes.{replies, counted, outcome, noNode, answered, containerAfter, replyAfter}
 use Rattle.rules.specs.Outcomes.{createOutcome, createAnswer, createdContainer}
 use Rattle.octets.specs.Rows.{row, firstRow}
-use Rattle.octets.specs.Lists.{Among, maybe}
+use Rattle.octets.specs.Lists.{maybe}
+use Rattle.octets.specs.Facts.{Among}
 use Rattle.rules.specs.Claims.{Reported, Demand1, Demand1Create}
 use Rattle.octets.proofs.RowLaws.{clear}
 use Rattle.rules.proofs.Kept.{after-valid}

@@ -14,7 +14,8 @@ use Rattle.octets.proofs.StringLaws.{same-eq, same-refl}
 use Rattle.format.specs.Container.{wellFormed}
 use Rattle.format.specs.Layout.{enablerOf, dataOf}
 use Rattle.format.specs.Parts.{Parts, partsOf}
-use Rattle.octets.specs.Lists.{Each, isSome, every, maybe}
+use Rattle.octets.specs.Lists.{isSome, every, maybe}
+use Rattle.octets.specs.Facts.{Each}
 use Rattle.octets.proofs.ListLaws.{both, each-map, every-each, each-every}
 use Rattle.format.proofs.RoundTrip.{parts-encode}
 use Rattle.rules.specs.Requests.{Test, Write, testWrite, kindOf, testWriteOf, requestOf}

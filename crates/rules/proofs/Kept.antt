@@ -14,7 +14,8 @@ use Rattle.format.specs.Layout.{expiryOf, renewalOf, usedLength, countAt, count
 use Rattle.format.specs.Layout.{recordSize}
 use Rattle.format.specs.Parts.{Parts, used, extras, noLease}
 use Rattle.format.specs.Claims.{Place, Valid}
-use Rattle.octets.specs.Lists.{Each, isSome, maybe}
+use Rattle.octets.specs.Lists.{isSome, maybe}
+use Rattle.octets.specs.Facts.{Each}
 use Rattle.octets.proofs.ListLaws.{both, each-append, each-take, each-drop}
 use Rattle.format.proofs.RoundTrip.{no-lease}
 use Rattle.rules.specs.Requests.{Request, testWrite, add, renew, cancel, read}

@@ -13,7 +13,8 @@ use Rattle.octets.specs.Numbers.{numberAt, number, digits}
 use Rattle.octets.proofs.NumberLaws.{length-digits}
 use Rattle.format.specs.Layout.{ownerOf, expiryOf, expiryAt, renewalAt, fixedPlaces, recordSize}
 use Rattle.format.specs.Container.{held, recordOk, lastHeld}
-use Rattle.octets.specs.Lists.{Each, maybe}
+use Rattle.octets.specs.Lists.{maybe}
+use Rattle.octets.specs.Facts.{Each}
 use Rattle.rules.specs.Leasing.{vacant, firstOf, later, withLast, trim, present}
 
 -- ---- what holds of each place

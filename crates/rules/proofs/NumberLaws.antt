@@ -5,7 +5,8 @@ use mathlib.Core.List.{List, [], _∷_}
 use mathlib.Core.Option.{none}
 use Prim.Native.Nat.{ℕ}
 use Rattle.format.specs.Container.{lengthAllowed, wellFormed}
-use Rattle.octets.specs.Lists.{Each, anyOf, Among}
+use Rattle.octets.specs.Lists.{anyOf}
+use Rattle.octets.specs.Facts.{Each, Among}
 use Rattle.rules.specs.Requests.{testWriteOf, requestOf, kindOf}
 use Rattle.octets.specs.Rows.{Row, firstRow}
 use Rattle.rules.specs.Outcomes.{rows, roomRows, requestRows, outcome, createOutcome, admitRows, findRows}

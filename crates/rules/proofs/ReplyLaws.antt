@@ -13,7 +13,8 @@ use borrow.Author.Tests.{ltb-false, ne-eqb}
 use Rattle.octets.specs.Moves.{put}
 use Rattle.format.specs.Parts.{Parts}
 use Rattle.rules.specs.Requests.{Request, testWrite, add, renew, cancel, read, kindOf, requestOf}
-use Rattle.octets.specs.Lists.{anyOf, Among, maybe}
+use Rattle.octets.specs.Lists.{anyOf, maybe}
+use Rattle.octets.specs.Facts.{Among}
 use Rattle.rules.specs.Leasing.{present}
 use Rattle.rules.specs.Outcomes.{afterOf, rows, roomRows, requestRows, replyTo, replyBytes, replies, counted}
 use Rattle.rules.specs.Outcomes.{noNode, answerTo, admitRows, findRows}

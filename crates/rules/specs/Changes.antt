@@ -7,7 +7,8 @@ use lib.ListN.{length, getD}
 use lib.Dec.{leb, ltb}
 use Rattle.rules.specs.Writing.{Placed, grow, placed}
 use Rattle.rules.specs.Requests.{Request, testWrite, add, renew, cancel, read}
-use Rattle.octets.specs.Lists.{orElse, lastSaid}
+use Rattle.octets.specs.Lists.{orElse}
+use Rattle.octets.specs.Last.{lastSaid}
 
 -- Whether a write of k bytes at a position covers position i.
 unfoldable pub covers : ℕ → ℕ → ℕ → Bool

@@ -12,7 +12,7 @@ use Rattle.octets.specs.Strings.{same}
 use Rattle.octets.specs.Moves.{put}
 use Rattle.format.specs.Container.{wellFormed}
 use Rattle.format.specs.Layout.{nodeOf, enablerOf, dataOf, leasesOf, secretSize}
-use Rattle.octets.specs.Lists.{Each, Among}
+use Rattle.octets.specs.Facts.{Each, Among}
 use Rattle.format.specs.Parts.{used, partsOf}
 use Rattle.rules.specs.Requests.{Test, Read, Write, testWrite, read, requestOf, kindOf, secretAt}
 use Rattle.rules.specs.Testing.{testPiece, readPiece, holds, replyOf}

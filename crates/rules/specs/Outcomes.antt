@@ -23,8 +23,7 @@ unfoldable pub withBytes : Parts → List ℕ → Parts
 withBytes p d = record { room = p .room; node = p .node; enabler = p .enabler; bytes = d; leases = p .leases }
 
 unfoldable pub withLeases : Parts → List (List ℕ) → Parts
-withLeases p ls =
-    record { room = p .room; node = p .node; enabler = p .enabler; bytes = p .bytes; leases = ls }
+withLeases p ls = record { room = p .room; node = p .node; enabler = p .enabler; bytes = p .bytes; leases = ls }
 
 unfoldable pub after : Parts → Request → Parts
 after p (testWrite k ts ws cut) = withBytes p (rewritten ws cut (p .bytes))
@@ -60,8 +59,7 @@ findRows p (add r) n =
     row 10 (leb leaseLimit (present (p .leases)) && not (knows (renewedBy (renewalOf r)) (p .leases))) ∷ []
 findRows p (renew t x) n = row 9 (not (knows (renewedBy t) (p .leases))) ∷ []
 findRows p (cancel t) n = row 9 (not (knows (cancelledBy t) (p .leases))) ∷ []
-findRows p (read rs) n =
-    row 6 (anyOf (exceeds (p .bytes)) rs) ∷ row 7 (ltb n (length (replyTo p (read rs)))) ∷ []
+findRows p (read rs) n = row 6 (anyOf (exceeds (p .bytes)) rs) ∷ row 7 (ltb n (length (replyTo p (read rs)))) ∷ []
 
 -- Row 11: the used length after the request would exceed the buffer.
 unfoldable pub roomRows : Parts → Request → List Row
@@ -118,12 +116,10 @@ answered c q r = answerTo (outcome c q (length r)) (partsOf c) (requestOf q)
 
 -- The container changes on 0 only.
 unfoldable pub containerAfter : List ℕ → List ℕ → List ℕ → List ℕ
-containerAfter c q r =
-    cond (eqb (outcome c q (length r)) 0) (encode (afterOf (partsOf c) (requestOf q))) c
+containerAfter c q r = cond (eqb (outcome c q (length r)) 0) (encode (afterOf (partsOf c) (requestOf q))) c
 
 unfoldable pub replyAfter : List ℕ → List ℕ → List ℕ → List ℕ
-replyAfter c q r =
-    cond (replies (outcome c q (length r))) (put 0 (replyBytes (partsOf c) (requestOf q)) r) r
+replyAfter c q r = cond (replies (outcome c q (length r))) (put 0 (replyBytes (partsOf c) (requestOf q)) r) r
 
 -- Create: rows 1, 3 and 12; a fresh container on 0.
 unfoldable pub createOutcome : List ℕ → List ℕ → List ℕ → ℕ

@@ -9,7 +9,7 @@ use lib.Dec.{eqb, leb, ltb}
 use lib.ListN.{length}
 use borrow.Author.Tests.{eqb-true, eqb-false, ltb-true, ltb-false, leb-true, leb-false}
 use borrow.Author.Tests.{eq-eqb, ne-eqb, lt-ltb, le-leb, not-false}
-use Rattle.octets.specs.Lists.{Each}
+use Rattle.octets.specs.Facts.{Each}
 use Rattle.octets.proofs.ListLaws.{both, by-refuting}
 use Rattle.octets.specs.Rows.{firstRow}
 use Rattle.shares.specs.Bounds.{inOrder}

@@ -8,7 +8,7 @@ use Rattle.shares.specs.Header.{keyAt}
 use Rattle.shares.specs.Nodes.{depth, power}
 use Rattle.shares.specs.Rows.{leastMultiple}
 use Rattle.shares.specs.Share.{checkedOf, sharePart, partAt, checkedContainer, containerPart, containerPartAt}
-use Rattle.octets.specs.Lists.{Among}
+use Rattle.octets.specs.Facts.{Among}
 
 -- The numbers of the table for a share, and for a container that holds one.
 abbrev pub shareNumbers : List ℕ

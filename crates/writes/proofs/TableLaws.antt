@@ -9,7 +9,7 @@ use lib.Dec.{ltb}
 use lib.ListN.{length, take, drop, replicate, length-take, length-drop, take-append-drop}
 use lib.Seq.{take-append-le, length-take-le}
 use borrow.Author.Tests.{ltb-true, ltb-false}
-use Rattle.octets.specs.Strings.{Octets}
+use Rattle.octets.specs.Facts.{Octets}
 use Rattle.octets.specs.Moves.{put}
 use Rattle.octets.proofs.ListLaws.{and-assoc, and-true}
 use Rattle.rules.specs.Requests.{Write, entrySize, entryOffset, entryCount, sumFrom, writesFrom}

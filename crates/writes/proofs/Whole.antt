@@ -7,7 +7,8 @@ use native.Mathlib.Omega.{arith}
 use lib.ListN.{length, take, drop, length-append}
 use lib.Seq.{take-at, drop-at}
 use Rattle.octets.specs.Numbers.{digits}
-use Rattle.octets.specs.Strings.{Octets, join}
+use Rattle.octets.specs.Strings.{join}
+use Rattle.octets.specs.Facts.{Octets}
 use Rattle.octets.proofs.NumberLaws.{length-digits}
 use Rattle.format.specs.Layout.{magic, sizeWidth, countSize, recordSize, fixedPlaces, sizeAt, leasesAt, dataAt}
 use Rattle.format.specs.Layout.{countAt, dataOf}

@@ -6,7 +6,7 @@ use native.Mathlib.Omega.{arith}
 use borrow.Author.Needs.{needs}
 use Rattle.octets.specs.Numbers.{digits}
 use Rattle.octets.specs.Moves.{put}
-use Rattle.octets.specs.Strings.{Octets}
+use Rattle.octets.specs.Facts.{Octets}
 use Rattle.format.specs.Layout.{countSize}
 use Rattle.format.proofs.WellFormed.{used-is, count-is}
 use Rattle.leases.proofs.PlaceLaws.{known-bounds}

@@ -4,7 +4,7 @@ use Prim.Native.Nat.{ℕ, _+_, _-_}
 use native.Mathlib.Omega.{arith}
 use lib.ListN.{replicate, length}
 use borrow.Author.Needs.{needs}
-use Rattle.octets.specs.Strings.{Octets}
+use Rattle.octets.specs.Facts.{Octets}
 use Rattle.octets.specs.Numbers.{digits}
 use Rattle.octets.specs.Moves.{put}
 use Rattle.format.specs.Layout.{recordSize, countSize, records}

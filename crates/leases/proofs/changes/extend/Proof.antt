@@ -2,7 +2,7 @@
 use mathlib.Core.Path.{_∙_}
 use native.Mathlib.Omega.{arith}
 use borrow.Author.Needs.{needs}
-use Rattle.octets.specs.Strings.{Octets}
+use Rattle.octets.specs.Facts.{Octets}
 use Rattle.leases.proofs.PlaceLaws.{known-bounds, Inside, inside}
 use Rattle.leases.proofs.ChangeLaws.{put-expiry, keep-expiry}
 use Rattle.leases.proofs.changes.extend.Statement.{statement}

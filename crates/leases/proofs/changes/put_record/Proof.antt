@@ -4,7 +4,7 @@ use Prim.Native.Nat.{ℕ}
 use native.Mathlib.Omega.{arith}
 use borrow.Author.Needs.{needs}
 use Rattle.octets.specs.Moves.{put}
-use Rattle.octets.specs.Strings.{Octets}
+use Rattle.octets.specs.Facts.{Octets}
 use Rattle.leases.proofs.PlaceLaws.{known-bounds, place-inside}
 use Rattle.leases.proofs.ChangeLaws.{put-place}
 use Rattle.leases.proofs.changes.put_record.Statement.{statement}

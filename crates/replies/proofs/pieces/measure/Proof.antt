@@ -3,7 +3,7 @@ use native.Mathlib.Omega.{arith}
 use Prim.Native.Nat.{_+_, _*_, _≤_}
 use borrow.Author.Needs.{needs}
 use lib.ListN.{length}
-use Rattle.octets.specs.Strings.{Octets}
+use Rattle.octets.specs.Facts.{Octets}
 use Rattle.format.specs.Layout.{limit}
 use Rattle.rules.specs.Requests.{entryLimit}
 use Rattle.rules.specs.Testing.{lengthSize}

@@ -5,7 +5,7 @@ use mathlib.Core.Bool.{false≢true}
 use native.Mathlib.Omega.{arith}
 use Prim.Native.Nat.{_*_, _≤_}
 use borrow.Author.Tests.{not-true, not-false}
-use Rattle.octets.specs.Strings.{Octets}
+use Rattle.octets.specs.Facts.{Octets}
 use Rattle.rules.specs.Requests.{testsAt, writesAt, testCount, writeCount, cutFlag, newLength, cutOk, entryLimit}
 use Rattle.requests.specs.declared.cursors.Body.{Body}
 use Rattle.requests.specs.declared.forms.TestsPassed.{TestsPassed}

@@ -5,7 +5,7 @@ use Prim.Native.Nat.{ℕ, _-_}
 use native.Mathlib.Omega.{arith}
 use lib.ListN.{length, take}
 use borrow.Author.Needs.{needs}
-use Rattle.octets.specs.Strings.{Octets}
+use Rattle.octets.specs.Facts.{Octets}
 use Rattle.rules.specs.Requests.{writesFrom}
 use Rattle.rules.specs.Writing.{writeAt}
 use Rattle.requests.proofs.CursorLaws.{entry-resolved}

@@ -3,7 +3,7 @@ use Prim.Native.Nat.{_+_, _*_, _≤_}
 use native.Mathlib.Omega.{arith}
 use lib.ListN.{length}
 use borrow.Author.Needs.{needs}
-use Rattle.octets.specs.Strings.{Octets}
+use Rattle.octets.specs.Facts.{Octets}
 use Rattle.format.specs.Layout.{countSize, recordSize, dataAt}
 use Rattle.format.specs.Parts.{partsOf}
 use Rattle.format.proofs.WellFormed.{used-is}

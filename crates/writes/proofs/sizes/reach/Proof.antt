@@ -4,7 +4,7 @@ use mathlib.Core.Path.{refl, ap}
 use Prim.Native.Nat.{ℕ}
 use native.Mathlib.Omega.{arith}
 use borrow.Author.Needs.{needs}
-use Rattle.octets.specs.Strings.{Octets}
+use Rattle.octets.specs.Facts.{Octets}
 use Rattle.rules.specs.Requests.{writesFrom}
 use Rattle.requests.proofs.CursorLaws.{entry-resolved}
 use Rattle.writes.proofs.TableLaws.{Rest, rest-start, rest-fits, Taken, entry-bounds, Reaching, reaching-next}

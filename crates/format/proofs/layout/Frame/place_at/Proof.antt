@@ -1,7 +1,7 @@
 -- The first four places are fixed, the others follow the count.
 use native.Mathlib.Omega.{arith}
 use borrow.Author.Tests.{lt-ltb, le-ltb}
-use Rattle.format.specs.Layout.{placeAt}
+use Rattle.format.specs.View.{placeAt}
 use Rattle.format.proofs.WellFormed.{count-is}
 use borrow.Author.Needs.{needs}
 use Rattle.format.proofs.layout.Frame.place_at.Statement.{statement}
