@@ -5,4 +5,4 @@ pub mod creation;
 pub mod data;
 mod reading;
 pub mod requesting;
-pub mod writing;
+mod writing;

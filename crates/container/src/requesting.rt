@@ -24,7 +24,9 @@ fn apply_formed(c: &mut [u8], frame: Frame, q: &[u8], r: &mut [u8]) -> Answer
         Form::Broken => answer(3, 0),
         Form::TestWrite(t) => test_and_write(c, frame, q, t, r),
         Form::Add(lease) => {
-            let done = add_lease(c, frame, lease.bytes(q));
+            let whole = lease.whole;
+            let renewal = lease.renewal;
+            let done = add_lease(c, frame, whole.bytes(q), renewal.bytes(q), lease.expiry);
             answer(done.number, done.count)
         }
         Form::Renew(token, expiry) => {

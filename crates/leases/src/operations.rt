@@ -3,7 +3,7 @@ ghost use mathlib.Core.Path.{_≡_};
 ghost use mathlib.Core.Bool.{true, false};
 ghost use lib.ListN.{length};
 ghost use Rattle.format.specs.Container.{held};
-ghost use Rattle.format.specs.Layout.{renewalOf, leasesOf, recordSize, secretSize};
+ghost use Rattle.format.specs.Layout.{expiryOf, renewalOf, leasesOf, recordSize, secretSize};
 ghost use Rattle.rules.specs.Leasing.{renewedBy, knows};
 ghost use Rattle.format.specs.Parts.{partsOf};
 ghost use Rattle.rules.specs.Requests.{add, renew, cancel};
@@ -18,7 +18,6 @@ use crate::places::count_leases;
 use crate::places::find;
 use crate::places::find_vacant;
 use format::layout::CANCEL_AT;
-use format::layout::EXPIRY_AT;
 use format::layout::Frame;
 use format::layout::LEASE_LIMIT;
 use format::layout::RENEWAL_AT;
@@ -71,16 +70,17 @@ fn place_new(c: &mut [u8], frame: Frame, lease: &[u8]) -> Done
     }
 }
 
-// A known renewal token keeps the later expiry.
-pub fn add_lease(c: &mut [u8], frame: Frame, lease: &[u8]) -> Done
-    requires { ⌜ Known (now c) frame × (length (now lease) ≡ recordSize) × (held (now lease) ≡ true) ⌝ }
+// A known renewal token keeps the later expiry. The record's token and expiry come beside it.
+pub fn add_lease(c: &mut [u8], frame: Frame, lease: &[u8], token: &[u8], expiry: u32) -> Done
+    requires { ⌜ Known (now c) frame × (length (now lease) ≡ recordSize) × (held (now lease) ≡ true)
+        × (now token ≡ renewalOf (now lease)) × (expiry ≡ expiryOf (now lease)) ⌝ }
     ensures { λ r. ⌜ r ≡ leaseDone (partsOf (now (c .entry))) (add (now (lease .entry))) ⌝ }
     ensures { λ _. ⌜ now (c .exit) ≡ leaseContainer (now (c .entry)) (add (now (lease .entry))) ⌝ }
 {
-    match find(c, frame, RENEWAL_AT, &lease[RENEWAL_AT..CANCEL_AT]) {
+    match find(c, frame, RENEWAL_AT, token) {
         Found::At(i) => {
             let count = count_leases(c, frame);
-            extend(c, frame, i, octets::numbers::u32_at(lease, EXPIRY_AT));
+            extend(c, frame, i, expiry);
             Done {
                 number: 0,
                 count: count,

@@ -13,7 +13,7 @@ use format::layout::LEASES_AT;
 use format::layout::RECORD_SIZE;
 use format::layout::SECRET_SIZE;
 
-pub enum Found {
+pub(crate) enum Found {
     At(usize),
     Nowhere,
 }

@@ -7,10 +7,11 @@ use Prim.Native.Nat.{ℕ, zero, suc, _+_, _*_, _-_, _≤_, _<_}
 use native.Mathlib.Omega.{arith}
 use native.Mathlib.Nat.{mul-suc}
 use lib.ListN.{length, take, drop, getD, length-drop}
-use lib.Seq.{take-all}
+use lib.Seq.{take-all, drop-drop}
 use lib.Dec.{eqb}
 use borrow.Author.Tests.{eqb-true, leb-true, eq-eqb, ne-eqb, le-leb, lt-leb}
 use Rattle.requests.specs.declared.cursors.Body.{Body}
+use Rattle.requests.specs.declared.cursors.Record.{Record}
 use Rattle.requests.specs.declared.cursors.Header.{Header}
 use Rattle.requests.specs.declared.cursors.ReadHeader.{ReadHeader}
 use Rattle.requests.specs.declared.forms.Form.{Form}
@@ -24,14 +25,14 @@ use Rattle.rules.specs.Requests.{sumFrom, testCount, testEntryOk, testSize, tes
 use Rattle.rules.specs.Requests.{writesAt, Request, entryLimit, entrySpecimen, newDataAt, secretAt, testsAt}
 use Rattle.rules.specs.Requests.{writeCount, cutFlag, entryOpcode, newLength, paddingAt, addOk, cancelOk, readCount}
 use Rattle.rules.specs.Requests.{readOk, readsAt, renewOk, requestOf, kindOf}
-use Rattle.requests.specs.Cursors.{bodyAt, headerAt, readHeaderAt}
+use Rattle.requests.specs.Cursors.{bodyAt, recordAt, headerAt, readHeaderAt}
 use Rattle.octets.specs.Lists.{isSome}
 use Rattle.requests.specs.Forms.{partedAs, testsPassed, writesPassed, Inside, Takes, asked, cutIn, entryOk}
 use Rattle.octets.proofs.ListLaws.{both, and-assoc, and-true, by-refuting}
 use Rattle.requests.proofs.CursorLaws.{count-below, specimen-below}
-use Rattle.format.specs.Layout.{secretSize, ownerOf, recordSize}
+use Rattle.format.specs.Layout.{secretSize, ownerOf, expiryOf, renewalOf, expiryAt, renewalAt, recordSize}
 use Rattle.format.specs.Container.{held}
-use Rattle.octets.specs.Numbers.{numberAt}
+use Rattle.octets.specs.Numbers.{number, numberAt}
 
 -- ---- the first entry of a table and the rest
 module _ (stride left p : ℕ) (h : 0 < left) where
@@ -380,16 +381,31 @@ pub add-unowned : (q : List ℕ) → length q ≡ 1 + recordSize → numberAt 4 
 unfolding byKind addOk
 add-unowned q l h = takes-broken q _ (rw (eq-eqb _ _ l, owner-is q, h))
 
-pub add-taken : (q : List ℕ) (b : Body) → length q ≡ 1 + recordSize → (numberAt 4 1 q ≡ 0 → ⊥) → b ≡ bodyAt 1 recordSize
-    → Takes q (byKind 2 q) (Add b)
+-- the fields of the record behind the kind, as they stand in the request
+renewal-here : (q : List ℕ) → take secretSize (drop (1 + renewalAt) q) ≡ renewalOf (drop 1 q)
+unfolding renewalOf
+renewal-here q = ap (take secretSize) (sym (drop-drop renewalAt 1 q))
+
+expiry-here : (q : List ℕ) → numberAt 4 (1 + expiryAt) q ≡ expiryOf (drop 1 q)
+unfolding expiryOf numberAt
+expiry-here q = ap (λ (s : List ℕ). number (take 4 s)) (sym (drop-drop expiryAt 1 q))
+
+pub add-taken : (q : List ℕ) (x : Record) → length q ≡ 1 + recordSize → (numberAt 4 1 q ≡ 0 → ⊥) → x ≡ recordAt 1 q
+    → Takes q (byKind 2 q) (Add x)
 unfolding byKind addOk isSome
-add-taken q b l h e =
+add-taken q x l h e =
     let o : held (drop 1 q) ≡ true = owner-is q ∙ rw (ne-eqb _ _ h) in
     let r = rest-is q recordSize l in
     rw e (record {
       number = rw (eq-eqb _ _ l, o);
       asks = rw (eq-eqb _ _ l, o, r);
-      inside = (record { size = refl; fits = omega arith }, rw r o);
+      inside = record {
+        whole = record { size = refl; fits = omega arith };
+        renewal = record { size = refl; fits = omega arith };
+        owned = rw r o;
+        renewal-is = rw r (renewal-here q);
+        expiry-is = rw r (expiry-here q);
+      };
     })
 
 pub renew-length : (q : List ℕ) → (length q ≡ 1 + secretSize + 4 → ⊥) → Takes q (byKind 3 q) Broken

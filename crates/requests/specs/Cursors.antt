@@ -3,10 +3,13 @@ use Prim.Native.Nat.{ℕ, _+_, _-_}
 use mathlib.Core.List.{List}
 use lib.ListN.{getD, take, drop}
 use Rattle.octets.specs.Numbers.{numberAt}
+use Rattle.format.specs.Layout.{expiryAt, renewalAt, secretSize, recordSize}
 use Rattle.rules.specs.Requests.{paddingAt, testSize, entryOffset, entryCount, entryOpcode, entrySpecimen}
+use Rattle.rules.specs.Requests.{secretAt, readsAt}
 use Rattle.requests.specs.declared.cursors.Byte.{Byte}
 use Rattle.requests.specs.declared.cursors.Number.{Number}
 use Rattle.requests.specs.declared.cursors.Body.{Body}
+use Rattle.requests.specs.declared.cursors.Record.{Record}
 use Rattle.requests.specs.declared.cursors.Entry.{Entry}
 use Rattle.requests.specs.declared.cursors.TestEntry.{TestEntry}
 use Rattle.requests.specs.declared.cursors.Header.{Header}
@@ -25,6 +28,16 @@ bodyAt p n = record { from = p; to = p + n; next = record { at = p + n } }
 abbrev pub bodyOf : Body → List ℕ → List ℕ
 bodyOf b q = take (b .to - b .from) (drop (b .from) q)
 
+-- A lease record: owner, expiry and renewal token, and the record as a whole.
+abbrev pub recordAt : ℕ → List ℕ → Record
+recordAt p q = record {
+  owner = numberAt 4 p q;
+  expiry = numberAt 4 (p + expiryAt) q;
+  renewal = bodyAt (p + renewalAt) secretSize;
+  whole = bodyAt p recordSize;
+  next = record { at = p + recordSize };
+}
+
 abbrev pub entryAt : ℕ → ℕ → List ℕ → Entry
 entryAt p stride q = record { offset = entryOffset p q; count = entryCount p q; next = record { at = p + stride } }
 
@@ -39,10 +52,10 @@ testAt p q = record {
 
 -- How much follows the kind: of a test-and-write up to its enabler, of a read up to its table.
 abbrev pub headerSize : ℕ
-headerSize = 7
+headerSize = secretAt - 1
 
 abbrev pub readHeaderSize : ℕ
-readHeaderSize = 3
+readHeaderSize = readsAt - 1
 
 abbrev pub headerAt : ℕ → List ℕ → Header
 headerAt p q = record {

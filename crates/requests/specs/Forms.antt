@@ -8,7 +8,7 @@ use mathlib.Core.Option.{Option, none, some}
 use lib.Dec.{eqb, leb}
 use lib.ListN.{length}
 use Rattle.octets.specs.Lists.{isSome}
-use Rattle.format.specs.Layout.{recordSize, secretSize}
+use Rattle.format.specs.Layout.{recordSize, secretSize, expiryOf, renewalOf}
 use Rattle.format.specs.Container.{held}
 use Rattle.rules.specs.Requests.{Test, Write, Request, testWrite, add, renew, cancel, read, requestLimit}
 use Rattle.rules.specs.Requests.{entryLimit, entrySize, testSize, entryCount, entrySpecimen, testEntryOk, allFrom}
@@ -16,6 +16,7 @@ use Rattle.rules.specs.Requests.{sumFrom, testsFrom, writesFrom, readsFrom}
 use Rattle.requests.specs.Cursors.{bodyOf}
 use Rattle.requests.specs.declared.cursors.Cursor.{Cursor}
 use Rattle.requests.specs.declared.cursors.Body.{Body}
+use Rattle.requests.specs.declared.cursors.Record.{Record}
 use Rattle.requests.specs.declared.cursors.Header.{Header}
 use Rattle.requests.specs.declared.forms.Table.{Table}
 use Rattle.requests.specs.declared.forms.Cut.{Cut}
@@ -31,7 +32,7 @@ use Rattle.requests.specs.declared.forms.Form.the-variants.{Read as Read
 abbrev pub formNumber : Form → ℕ
 formNumber Broken = 3
 formNumber (TestWrite t) = 0
-formNumber (Add b) = 0
+formNumber (Add r) = 0
 formNumber (Renew b x) = 0
 formNumber (Cancel b) = 0
 formNumber (ReadForm t) = 0
@@ -56,7 +57,7 @@ readIn t q = read (readsFrom (t .count) (t .first .at) q)
 abbrev pub asked : List ℕ → Form → Option Request
 asked q Broken = none
 asked q (TestWrite t) = some (writeIn t q)
-asked q (Add b) = some (add (bodyOf b q))
+asked q (Add r) = some (add (bodyOf (r .whole) q))
 asked q (Renew b x) = some (renew (bodyOf b q) x)
 asked q (Cancel b) = some (cancel (bodyOf b q))
 asked q (ReadForm t) = some (readIn t q)
@@ -87,11 +88,19 @@ pub record PartedIn (q : List ℕ) (t : Parted) : Type 0 where
   pub bodies :
       t .bodies .at + sumFrom (λ p. entryCount p q) entrySize (t .writes .count) (t .writes .first .at) ≤ length q
 
--- A record that is added has an owner.
+-- A lease record that has an owner, and its fields.
+pub record RecordIn (q : List ℕ) (r : Record) : Type 0 where
+  pub whole : BodyIn q (r .whole) recordSize
+  pub renewal : BodyIn q (r .renewal) secretSize
+  pub owned : held (bodyOf (r .whole) q) ≡ true
+  pub renewal-is : bodyOf (r .renewal) q ≡ renewalOf (bodyOf (r .whole) q)
+  pub expiry-is : r .expiry ≡ expiryOf (bodyOf (r .whole) q)
+
+-- What a form names lies inside the request.
 abbrev pub Inside : List ℕ → Form → Type 0
 Inside q Broken = Unit {0}
 Inside q (TestWrite t) = PartedIn q t
-Inside q (Add b) = BodyIn q b recordSize × (held (bodyOf b q) ≡ true)
+Inside q (Add r) = RecordIn q r
 Inside q (Renew b x) = BodyIn q b secretSize
 Inside q (Cancel b) = BodyIn q b secretSize
 Inside q (ReadForm t) = TableIn q t × (t .stride ≡ entrySize)

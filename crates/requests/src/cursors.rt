@@ -3,9 +3,12 @@
 ghost use mathlib.Core.Path.{_≡_};
 ghost use Prim.Native.Nat.{_+_, _≤_};
 ghost use lib.ListN.{length};
+ghost use Rattle.format.specs.Layout.{recordSize};
 ghost use Rattle.rules.specs.Requests.{entrySize, testSize};
-ghost use Rattle.requests.specs.Cursors.{byteAt, numberIn, bodyAt, bodyOf, entryAt, testAt, headerAt};
+ghost use Rattle.requests.specs.Cursors.{byteAt, numberIn, bodyAt, bodyOf, recordAt, entryAt, testAt, headerAt};
 ghost use Rattle.requests.specs.Cursors.{readHeaderAt, headerSize, readHeaderSize};
+use format::layout::RECORD_SIZE;
+use format::layout::SECRET_SIZE;
 
 // An entry of a table: offset 4, length 4.
 pub const ENTRY_SIZE: usize = 8;
@@ -31,9 +34,9 @@ pub struct Byte {
     pub next: Cursor,
 }
 
-pub struct Number {
-    pub value: u32,
-    pub next: Cursor,
+pub(crate) struct Number {
+    pub(crate) value: u32,
+    pub(crate) next: Cursor,
 }
 
 // A run of bytes: where it begins and ends.
@@ -76,6 +79,15 @@ pub(crate) struct ReadHeader {
     pub(crate) next: Cursor,
 }
 
+// A lease record as a whole, and of its fields those that an add asks for.
+pub struct Record {
+    pub owner: u32,
+    pub expiry: u32,
+    pub renewal: Body,
+    pub whole: Body,
+    pub next: Cursor,
+}
+
 impl Body {
     pub fn bytes(self, q: &[u8]) -> &[u8]
         requires { ⌜ (self .from ≤ self .to) × (self .to ≤ length (now q)) ⌝ }
@@ -106,7 +118,7 @@ impl Cursor {
     }
 
     // An unsigned number of 4 bytes.
-    pub fn number(self, q: &[u8]) -> Number
+    pub(crate) fn number(self, q: &[u8]) -> Number
         requires { ⌜ self .at + 4 ≤ length (now q) ⌝ }
         ensures { λ r. ⌜ r ≡ numberIn (self .at) (now (q .entry)) ⌝ }
     {
@@ -129,6 +141,25 @@ impl Cursor {
             from: at,
             to: to,
             next: Cursor { at: to },
+        }
+    }
+
+    // A lease record: owner 4, expiry 4, renewal token, and the fields behind it.
+    pub(crate) fn lease(self, q: &[u8]) -> Record
+        requires { ⌜ self .at + recordSize ≤ length (now q) ⌝ }
+        ensures { λ r. ⌜ r ≡ recordAt (self .at) (now (q .entry)) ⌝ }
+    {
+        let owner = self.number(q);
+        let expiry = owner.next.number(q);
+        let renewal = expiry.next.body(q, SECRET_SIZE);
+        let whole = self.body(q, RECORD_SIZE);
+        let next = whole.next;
+        Record {
+            owner: owner.value,
+            expiry: expiry.value,
+            renewal: renewal,
+            whole: whole,
+            next: next,
         }
     }
 

@@ -10,6 +10,7 @@ use crate::cursors::ENTRY_SIZE;
 use crate::cursors::HEADER_SIZE;
 use crate::cursors::Header;
 use crate::cursors::READ_HEADER_SIZE;
+use crate::cursors::Record;
 use crate::cursors::TEST_SIZE;
 use format::layout::RECORD_SIZE;
 use format::layout::SECRET_SIZE;
@@ -50,7 +51,7 @@ pub struct Parted {
 pub enum Form {
     Broken,
     TestWrite(Parted),
-    Add(Body),
+    Add(Record),
     Renew(Body, u32),
     Cancel(Body),
     Read(Table),
@@ -230,7 +231,7 @@ fn read_form(q: &[u8], at: Cursor) -> Form
     })
 }
 
-// Kind 2, after its kind: a record with an owner, which is its first number.
+// Kind 2, after its kind: a record with an owner.
 fn add_form(q: &[u8], at: Cursor) -> Form
     requires { ⌜ at .at ≡ 1 ⌝ }
     ensures { λ r. ⌜ Takes (now (q .entry)) (byKind 2 (now (q .entry))) r ⌝ }
@@ -238,10 +239,11 @@ fn add_form(q: &[u8], at: Cursor) -> Form
     if q.len() != 1 + RECORD_SIZE {
         return Form::Broken;
     }
-    if at.number(q).value == 0 {
+    let lease = at.lease(q);
+    if lease.owner == 0 {
         return Form::Broken;
     }
-    Form::Add(at.body(q, RECORD_SIZE))
+    Form::Add(lease)
 }
 
 // Kind 3, after its kind: a token, then an expiry.

@@ -5,6 +5,7 @@ use Prim.Native.Nat.{ℕ}
 use native.Mathlib.Omega.{arith}
 use lib.ListN.{length}
 use Rattle.format.specs.Container.{held}
+use Rattle.format.specs.Layout.{expiryOf, renewalOf}
 use Rattle.format.specs.Parts.{partsOf}
 use Rattle.rules.specs.Requests.{add, renew, cancel}
 use Rattle.requests.specs.Forms.{Takes}
@@ -42,19 +43,26 @@ enum-known-lease c = search needs
 
 bytes-requires : tie.Need-bytes-requires
 bytes-requires c κs =
-    let b = subst (Takes _ _) (c .before .before .lease .given .1)
-    (c .before .before .before .before .form-of .ensures) .inside .0 in
+    let b = subst (Takes _ _) (c .before .before .before .before .lease .given .1)
+    (c .before .before .before .before .before .before .form-of .ensures) .inside .whole in
+    (omega (arith, b .size), b .fits)
+
+bytes-requires-2 : tie.Need-bytes-requires-2
+bytes-requires-2 c κs =
+    let b = subst (Takes _ _) (c .before .before .before .before .before .lease .given .1)
+    (c .before .before .before .before .before .before .before .form-of .ensures) .inside .renewal in
     (omega (arith, b .size), b .fits)
 
 add-lease-requires : tie.Need-add-lease-requires
 add-lease-requires c κs =
-    let i = subst (Takes _ _) (c .before .before .before .lease .given .1)
-    (c .before .before .before .before .before .form-of .ensures) .inside in
-    let e = c .bytes .ensures in (
-      c .before .before .before .before .before .before .before .before .before .pre,
-      ap length e
-          ∙ body-length _ _ _ (i .0),
-      ap held e ∙ i .1,
+    let i = subst (Takes _ _) (c .before .before .before .before .before .before .lease .given .1)
+    (c .before .before .before .before .before .before .before .before .form-of .ensures) .inside in
+    let e = c .before .bytes .ensures in (
+      c .before .before .before .before .before .before .before .before .before .before .before .before .pre,
+      ap length e ∙ body-length _ _ _ (i .whole),
+      ap held e ∙ i .owned,
+      c .bytes2 .ensures ∙ i .renewal-is ∙ sym (ap renewalOf e),
+      i .expiry-is ∙ sym (ap expiryOf e),
     )
 
 answer-requires-2 : tie.Need-answer-requires-2
@@ -63,8 +71,8 @@ answer-requires-2 c κs = search needs
 enum-known-token : tie.Need-enum-known-token
 enum-known-token c = search needs
 
-bytes-requires-2 : tie.Need-bytes-requires-2
-bytes-requires-2 c κs =
+bytes-requires-3 : tie.Need-bytes-requires-3
+bytes-requires-3 c κs =
     let b = subst (Takes _ _) (c .before .before .token .given .1)
     (c .before .before .before .before .form-of .ensures) .inside in
     (omega (arith, b .size), b .fits)
@@ -74,7 +82,7 @@ renew-lease-requires c κs =
     let i = subst (Takes _ _) (c .before .before .before .token .given .1)
     (c .before .before .before .before .before .form-of .ensures) .inside in (
       c .before .before .before .before .before .before .before .before .before .pre,
-      ap length (c .bytes2 .ensures)
+      ap length (c .bytes3 .ensures)
           ∙ body-length _ _ _ i,
     )
 
@@ -84,8 +92,8 @@ answer-requires-3 c κs = search needs
 enum-known-token-2 : tie.Need-enum-known-token-2
 enum-known-token-2 c = search needs
 
-bytes-requires-3 : tie.Need-bytes-requires-3
-bytes-requires-3 c κs =
+bytes-requires-4 : tie.Need-bytes-requires-4
+bytes-requires-4 c κs =
     let b = subst (Takes _ _) (c .before .before .token2 .given .1)
     (c .before .before .before .before .form-of .ensures) .inside in
     (omega (arith, b .size), b .fits)
@@ -95,7 +103,7 @@ cancel-lease-requires c κs =
     let i = subst (Takes _ _) (c .before .before .before .token2 .given .1)
     (c .before .before .before .before .before .form-of .ensures) .inside in (
       c .before .before .before .before .before .before .before .before .before .pre,
-      ap length (c .bytes3 .ensures)
+      ap length (c .bytes4 .ensures)
           ∙ body-length _ _ _ i,
     )
 
@@ -134,12 +142,12 @@ same-length-3 c = search needs
 
 returns-3 : tie.Need-returns-3
 returns-3 c =
-    let s = c .before .before .before .before .before .before .before .before .before .before .before .before .before in
+    let l = c .before .before .before .before .before .before .before .before .before .before in
+    let s = l .before .before .before .before .before .before in
     let x = s .args .c .now in
-    let f = subst (Takes _ _) (c .before .before .before .before .before .before .before .lease .given .1)
-    (c .before .before .before .before .before .before .before .before .before .form-of .ensures) in
+    let f = subst (Takes _ _) (l .lease .given .1) (l .before .before .form-of .ensures) in
     let d = c .before .before .before .add-lease in
-    let e = c .before .before .before .before .bytes .ensures in
+    let e = c .before .before .before .before .before .bytes .ensures in
     lease-results x (s .args .q .now) _ (s .pre .formed) (sym (f .asks)) tt (d .result) _ _ _ (d .ensures .0
     ∙ ap (λ (l : List ℕ). leaseDone (partsOf x) (add l)) e) (d .ensures .1
     ∙ ap (λ (l : List ℕ). leaseContainer x (add l)) e) (c .answer2 .ensures)
@@ -154,7 +162,7 @@ returns-4 c =
     let f = subst (Takes _ _) (c .before .before .before .before .before .before .before .token .given .1)
     (c .before .before .before .before .before .before .before .before .before .form-of .ensures) in
     let d = c .before .before .before .renew-lease in
-    let e = c .before .before .before .before .bytes2 .ensures in
+    let e = c .before .before .before .before .bytes3 .ensures in
     let y = c .before .before .before .before .before .before .before .token .given .0 .1 .0 in
     lease-results x (s .args .q .now) _ (s .pre .formed) (sym (f .asks)) tt (d .result) _ _ _ (d .ensures .0
     ∙ ap (λ (l : List ℕ). leaseDone (partsOf x) (renew l y)) e) (d .ensures .1
@@ -170,7 +178,7 @@ returns-5 c =
     let f = subst (Takes _ _) (c .before .before .before .before .before .before .before .token2 .given .1)
     (c .before .before .before .before .before .before .before .before .before .form-of .ensures) in
     let d = c .before .before .before .cancel-lease in
-    let e = c .before .before .before .before .bytes3 .ensures in
+    let e = c .before .before .before .before .bytes4 .ensures in
     lease-results x (s .args .q .now) _ (s .pre .formed) (sym (f .asks)) tt (d .result) _ _ _ (d .ensures .0
     ∙ ap (λ (l : List ℕ). leaseDone (partsOf x) (cancel l)) e) (d .ensures .1
     ∙ ap (λ (l : List ℕ). leaseContainer x (cancel l)) e) (c .answer4 .ensures)
@@ -211,14 +219,15 @@ apply-formed-spec =
     test-and-write-requires
     enum-known-lease
     bytes-requires
+    bytes-requires-2
     add-lease-requires
     answer-requires-2
     enum-known-token
-    bytes-requires-2
+    bytes-requires-3
     renew-lease-requires
     answer-requires-3
     enum-known-token-2
-    bytes-requires-3
+    bytes-requires-4
     cancel-lease-requires
     answer-requires-4
     enum-known-t-2

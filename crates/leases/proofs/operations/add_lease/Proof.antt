@@ -1,30 +1,34 @@
 -- The answer by where the token stands. Assumes nothing.
-use mathlib.Core.Path.{sym, _∙_}
+use mathlib.Core.Path.{_≡_, sym, ap, subst, _∙_}
+use mathlib.Core.List.{List}
+use Prim.Native.Nat.{ℕ}
+use native.Mathlib.Omega.{arith}
+use lib.ListN.{length, drop, length-drop}
+use lib.Seq.{length-take-le}
 use borrow.Author.Needs.{needs}
-use Rattle.format.specs.Layout.{renewalAt, renewalOf, expiryOf}
+use Rattle.format.specs.Layout.{renewalAt, renewalOf, recordSize, secretSize}
 use Rattle.leases.specs.Places.{hasToken}
 use Rattle.leases.proofs.OperationLaws.{Finds, found-inside, add-here, add-new}
-use Rattle.leases.specs.declared.places.Found.the-variants.{At}
+use Rattle.leases.specs.declared.places.Found.the-variants.{At, Nowhere}
 use Rattle.leases.proofs.operations.add_lease.Statement.{statement}
 use Rattle.leases.proofs.operations.add_lease.Tie as tie
+
+renewal-length : (r : List ℕ) → length r ≡ recordSize → length (renewalOf r) ≡ secretSize
+unfolding renewalOf
+renewal-length r h = length-take-le secretSize (drop renewalAt r) (rw length-drop (omega (arith, h)))
 
 -- where the token stands
 here : (c : tie.After-i) → let a = c .before .before .before .before .before .before .before .args in
     Finds (a .c .now) (hasToken renewalAt (renewalOf (a .lease .now))) (At (c .i .given .0 .0))
-unfolding renewalOf
-here c = sym (c .i .given .1) ∙ c .before .before .find .ensures
-
-sub-find : tie.Need-sub-find
-sub-find c = search needs
-
-part-find-start : tie.Need-part-find-start
-part-find-start c = search needs
-
-part-find-end : tie.Need-part-find-end
-part-find-end c = search needs
+here c =
+    let s = c .before .before .before .before .before .before .before in
+    subst (λ (t : List ℕ). Finds (s .args .c .now) (hasToken renewalAt t) (At (c .i .given .0 .0))) (s .pre .3)
+    (sym (c .i .given .1) ∙ c .before .before .find .ensures)
 
 find-requires : tie.Need-find-requires
-find-requires c κs = search needs
+find-requires c κs =
+    let s = c .before .before .before .before in
+    (s .pre .0, omega arith, ap length (s .pre .3) ∙ renewal-length _ (s .pre .1))
 
 enum-known-i : tie.Need-enum-known-i
 enum-known-i c = search needs
@@ -32,13 +36,9 @@ enum-known-i c = search needs
 count-leases-requires : tie.Need-count-leases-requires
 count-leases-requires c κs = search needs
 
-u32-at-requires : tie.Need-u32-at-requires
-u32-at-requires c κs = search needs
-
 extend-requires : tie.Need-extend-requires
-unfolding renewalOf
 extend-requires c κs =
-    let i = c .before .before .before .before .before in
+    let i = c .before .before .before .before in
     let s = i .before .before .before .before .before .before .before in (
       s .pre .0,
       found-inside (s .args .c .now) _ (s .pre .0) (hasToken renewalAt (renewalOf (s .args .lease .now))) _ (here i),
@@ -48,7 +48,6 @@ enum-told : tie.Need-enum-told
 enum-told c = search needs
 
 place-new-requires : tie.Need-place-new-requires
-unfolding renewalOf
 place-new-requires c κs =
     let w = c .before .before .before in
     let s = w .before .before .before .before .before in (
@@ -56,20 +55,20 @@ place-new-requires c κs =
       s .pre .1,
       s .pre .2,
       add-new (s .args .c .now) _ (s .pre .0) (s .args .lease .now)
-          (sym (c .before .enum-told .given .1) ∙ w .find .ensures),
+          (subst (λ (t : List ℕ). Finds (s .args .c .now) (hasToken renewalAt t) Nowhere) (s .pre .3)
+          (sym (c .before .enum-told .given .1) ∙ w .find .ensures)),
     )
 
 same-length : tie.Need-same-length
 same-length c = search needs
 
 returns : tie.Need-returns
-unfolding expiryOf
 returns c =
-    let n = c .before .before .before .before .before in
+    let n = c .before .before .before .before in
     let i = n .before .before .before in
     let s = i .before .before .before .before .before .before .before in
     add-here (s .args .c .now) _ (s .pre .0) (s .args .lease .now) _ _ _ _ (here i) (n .count-leases .ensures)
-    (c .before .before .before .u32-at .ensures) (c .before .before .extend .ensures)
+    (s .pre .4) (c .before .before .extend .ensures)
 
 same-length-2 : tie.Need-same-length-2
 same-length-2 c = search needs
@@ -81,13 +80,9 @@ pub add-lease-spec : {M : Type 1} → statement M
 add-lease-spec =
     tie.close
     (tie.spec
-    sub-find
-    part-find-start
-    part-find-end
     find-requires
     enum-known-i
     count-leases-requires
-    u32-at-requires
     extend-requires
     enum-told
     place-new-requires
