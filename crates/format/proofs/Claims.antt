@@ -10,7 +10,7 @@ use Rattle.octets.proofs.NumberLaws.{octets-digits}
 use Rattle.octets.proofs.StringLaws.{octets-take, octets-drop, octets-append}
 use Rattle.format.specs.Layout.{magic, nodeAt, enablerAt, leasesAt, dataAt, countAt, nodeOf, enablerOf, sizeOf}
 use Rattle.format.specs.Layout.{dataOf, extrasOf, records, leasesOf, countSize, fixedPlaces, recordSize}
-use Rattle.format.specs.Layout.{nodeSize, secretSize, sizeWidth}
+use Rattle.format.specs.Layout.{nodeSize, secretSize, sizeWidth, extrasAt}
 use Rattle.format.specs.Parts.{Parts, extras, used, partsOf, encode}
 use Rattle.format.specs.Claims.{OctetParts, RoundTrip}
 use Rattle.octets.proofs.ListLaws.{each-append, each-take, each-drop}
@@ -70,7 +70,7 @@ octets-encode p o =
 octets-parts : (c : List ℕ) → Octets c → OctetParts (partsOf c)
 unfolding partsOf nodeOf enablerOf dataOf leasesOf
 octets-parts c h =
-    let k : ℕ = countAt (sizeOf c) + countSize in
+    let k : ℕ = extrasAt (sizeOf c) in
     record {
       node = octets-take nodeSize (drop nodeAt c) (octets-drop nodeAt c h);
       enabler = octets-take secretSize (drop enablerAt c) (octets-drop enablerAt c h);

@@ -15,7 +15,7 @@ use Rattle.octets.specs.Numbers.{number, numberAt}
 use Rattle.octets.specs.Strings.{allZero}
 use Rattle.format.specs.Layout.{least, limit, leasesAt, countAt, sizeOf, extrasOf, records, leasesOf, ownerOf}
 use Rattle.format.specs.Layout.{dataAt, extraLimit, recordSize, sizeWidth, sizeAt, fixedPlaces, countSize}
-use Rattle.format.specs.Layout.{usedLength}
+use Rattle.format.specs.Layout.{usedLength, extrasAt}
 use Rattle.format.specs.Container.{lengthAllowed, held, recordOk, lastHeld, fieldsOk, contentsOk, wellFormed}
 use Rattle.format.specs.Judging.{fieldsFound, Framed, Judges, Known, frameOf}
 use Rattle.octets.proofs.ListLaws.{both, and-assoc}
@@ -112,19 +112,19 @@ extras-read c s o e p q r = rw p (ap (λ (n : ℕ). numberAt 4 n c) (sym q) ∙ 
 
 -- ---- the contents, in the order in which the code tests them
 leases-ok : (c : List ℕ) → every recordOk (leasesOf c) ≡ (every recordOk (records fixedPlaces leasesAt c)
-    && every recordOk (records (extrasOf c) (countAt (sizeOf c) + countSize) c))
+    && every recordOk (records (extrasOf c) (extrasAt (sizeOf c)) c))
 unfolding leasesOf
-leases-ok c = every-append (records fixedPlaces leasesAt c) (records (extrasOf c) (countAt (sizeOf c) + countSize) c)
+leases-ok c = every-append (records fixedPlaces leasesAt c) (records (extrasOf c) (extrasAt (sizeOf c)) c)
 
 pub contents-read : (c : List ℕ) (f : Frame) → Framed c f
     → contentsOk c
     ≡ (every recordOk (records fixedPlaces leasesAt c)
-    && (every recordOk (records (f .extras) (countAt (f .size) + countSize) c)
-    && (lastHeld (records (f .extras) (countAt (f .size) + countSize) c)
+    && (every recordOk (records (f .extras) (extrasAt (f .size)) c)
+    && (lastHeld (records (f .extras) (extrasAt (f .size)) c)
     && allZero (drop (usedLength (f .size) (f .extras)) c))))
 unfolding contentsOk
 contents-read c f h =
-    let l : List (List ℕ) = records (extrasOf c) (countAt (sizeOf c) + countSize) c in
+    let l : List (List ℕ) = records (extrasOf c) (extrasAt (sizeOf c)) c in
     rw (h .is, leases-ok c, extra-leases c)
     (and-assoc (every recordOk (records fixedPlaces leasesAt c)) (every recordOk l)
     (lastHeld l && allZero (drop (usedLength (sizeOf c) (extrasOf c)) c)))

@@ -15,7 +15,7 @@ use Rattle.octets.proofs.StringLaws.{same-eq, same-refl, zeros-are, allZero-rep
 use Rattle.format.specs.Layout.{magic, least, limit, nodeAt, enablerAt, sizeAt, offsetAt, leasesAt, dataAt}
 use Rattle.format.specs.Layout.{countAt, usedLength, nodeOf, enablerOf, sizeOf, dataOf, extrasOf, records}
 use Rattle.format.specs.Layout.{leasesOf, ownerOf, countSize, fixedPlaces, extraLimit, recordSize, sizeWidth}
-use Rattle.format.specs.Layout.{nodeSize, secretSize}
+use Rattle.format.specs.Layout.{nodeSize, secretSize, extrasAt}
 use Rattle.format.specs.Container.{held, recordOk, lastHeld, wellFormed}
 use Rattle.format.specs.Parts.{Parts, extras, used, partsOf, encode, noLease, fresh, headOf, frontOf, tailOf}
 use Rattle.format.specs.Claims.{Place, Valid}
@@ -54,13 +54,13 @@ records-sizes (suc n) p c h = (
 -- ---- the leases of a container: the four, then the extras
 pub four-leases : (c : List ℕ) → take fixedPlaces (leasesOf c) ≡ records fixedPlaces leasesAt c
 unfolding leasesOf
-four-leases c = take-at (records fixedPlaces leasesAt c) (records (extrasOf c) (countAt (sizeOf c) + countSize) c) 4
+four-leases c = take-at (records fixedPlaces leasesAt c) (records (extrasOf c) (extrasAt (sizeOf c)) c) 4
     (length-records fixedPlaces leasesAt c)
 
 pub extra-leases : (c : List ℕ) → drop fixedPlaces (leasesOf c)
-    ≡ records (extrasOf c) (countAt (sizeOf c) + countSize) c
+    ≡ records (extrasOf c) (extrasAt (sizeOf c)) c
 unfolding leasesOf
-extra-leases c = drop-at (records fixedPlaces leasesAt c) (records (extrasOf c) (countAt (sizeOf c) + countSize) c) 4
+extra-leases c = drop-at (records fixedPlaces leasesAt c) (records (extrasOf c) (extrasAt (sizeOf c)) c) 4
     (length-records fixedPlaces leasesAt c)
 
 pub leases-sizes : (c : List ℕ) → usedLength (sizeOf c) (extrasOf c) ≤ length c
@@ -70,7 +70,7 @@ leases-sizes c h =
     let u = used-is (sizeOf c) (extrasOf c) in
     let k = count-is (sizeOf c) in
     each-append _ (records fixedPlaces leasesAt c) _ (records-sizes fixedPlaces leasesAt c (omega arith))
-    (records-sizes (extrasOf c) (countAt (sizeOf c) + countSize) c (omega arith))
+    (records-sizes (extrasOf c) (extrasAt (sizeOf c)) c (omega arith))
 
 -- ---- from the bytes: the parts are valid
 pub parts-used : (c : List ℕ) → wellFormed c ≡ true → used (partsOf c) ≡ usedLength (sizeOf c) (extrasOf c)
@@ -137,9 +137,9 @@ enabler-field c = refl
 pub four-field : (c : List ℕ) → take (fixedPlaces * recordSize) (drop leasesAt c) ≡ join (take fixedPlaces (leasesOf c))
 four-field c = sym (ap join (four-leases c) ∙ join-records fixedPlaces leasesAt c)
 
-pub extra-field : (c : List ℕ) → take (recordSize * extrasOf c) (drop (countAt (sizeOf c) + countSize) c)
+pub extra-field : (c : List ℕ) → take (recordSize * extrasOf c) (drop (extrasAt (sizeOf c)) c)
     ≡ join (drop fixedPlaces (leasesOf c))
-extra-field c = sym (ap join (extra-leases c) ∙ join-records (extrasOf c) (countAt (sizeOf c) + countSize) c)
+extra-field c = sym (ap join (extra-leases c) ∙ join-records (extrasOf c) (extrasAt (sizeOf c)) c)
 
 pub rest-field : (c : List ℕ) (a : ℕ) → allZero (drop a c) ≡ true → drop a c ≡ replicate (length c - a) 0
 rest-field c a e = zeros-are (drop a c) e ∙ ap (λ (k : ℕ). replicate k 0) (length-drop a c)
@@ -162,9 +162,9 @@ laid-out c w o =
     let f = formed-facts c w in
     let h = f .fields in
     let z9 = rest-field c (usedLength s e) (f .contents .zeros) in
-    let z8 = field-then c (countAt s + countSize) (recordSize * e) (usedLength s e) _ _ (omega arith)
+    let z8 = field-then c (extrasAt s) (recordSize * e) (usedLength s e) _ _ (omega arith)
     (extra-field c) z9 in
-    let z7 = field-then c (countAt s) countSize (countAt s + countSize) _ _ refl
+    let z7 = field-then c (countAt s) countSize (extrasAt s) _ _ refl
     (digits-at c countSize (countAt s) e (omega arith) o (extras-field c)) z8 in
     let z6 = field-then c dataAt s (countAt s) _ _ (sym k) (data-field c) z7 in
     let z5 = field-then c leasesAt (fixedPlaces * recordSize) dataAt _ _ refl (four-field c) z6 in
@@ -238,7 +238,7 @@ pub record Written (p : Parts) (s e : ℕ) (c : List ℕ) : Type 0 where
   pub four : drop leasesAt c ≡ join (take fixedPlaces (p .leases)) ++ after-offset
   pub bytes : take s (drop dataAt c) ≡ p .bytes
   pub count : take countSize (drop (countAt s) c) ≡ digits countSize e
-  pub more : drop (countAt s + countSize) c ≡ join (drop fixedPlaces (p .leases))
+  pub more : drop (extrasAt s) c ≡ join (drop fixedPlaces (p .leases))
       ++ replicate (p .room - usedLength s e) 0
   pub rest : drop (usedLength s e) c ≡ replicate (p .room - usedLength s e) 0
 
@@ -291,10 +291,10 @@ module _ (p : Parts) (v : Valid p) where
       let z5 = field-back c leasesAt (fixedPlaces * recordSize) dataAt (join (take fixedPlaces (p .leases))) _
       (z4 .1) four-bytes refl in
       let z6 = field-back c dataAt s (countAt s) (p .bytes) _ (z5 .1) refl (sym (count-is s)) in
-      let z7 = field-back c (countAt s) countSize (countAt s + countSize) (digits countSize e) _ (z6 .1)
+      let z7 = field-back c (countAt s) countSize (extrasAt s) (digits countSize e) _ (z6 .1)
       (length-digits countSize e) refl in
-      let q : countAt s + countSize + recordSize * e ≡ usedLength s e = omega (arith, count-is s, used-is s e) in
-      let z8 = field-back c (countAt s + countSize) (recordSize * e) (usedLength s e)
+      let q : extrasAt s + recordSize * e ≡ usedLength s e = omega (arith, count-is s, used-is s e) in
+      let z8 = field-back c (extrasAt s) (recordSize * e) (usedLength s e)
       (join (drop fixedPlaces (p .leases))) _ (z7 .1) extra-bytes q in
       record {
         magical = z0 .0;
@@ -357,9 +357,9 @@ module _ (p : Parts) (v : Valid p) where
   four-encode = records-back fixedPlaces leasesAt (encode p) (take fixedPlaces (p .leases)) (written .after-offset)
       (written .four) four-long (each-take _ fixedPlaces (p .leases) sizes)
 
-  more-encode : records (extras (p .leases)) (countAt (length (p .bytes)) + countSize) (encode p)
+  more-encode : records (extras (p .leases)) (extrasAt (length (p .bytes))) (encode p)
       ≡ drop fixedPlaces (p .leases)
-  more-encode = records-back (extras (p .leases)) (countAt (length (p .bytes)) + countSize) (encode p)
+  more-encode = records-back (extras (p .leases)) (extrasAt (length (p .bytes))) (encode p)
       (drop fixedPlaces (p .leases)) _ (written .more) extras-long (each-drop _ fixedPlaces (p .leases) sizes)
 
   pub leases-encode : leasesOf (encode p) ≡ p .leases

@@ -7,7 +7,7 @@ use native.Mathlib.Omega.{arith}
 use lib.ListN.{length, replicate, length-append, length-replicate}
 use Rattle.format.specs.declared.layout.Frame.{Frame}
 use Rattle.format.specs.Parts.{frontOf, Parts, headOf, tailOf, encode, used, extras, partsOf}
-use Rattle.format.specs.View.{Laid}
+use Rattle.format.specs.View.{tailSize, Laid}
 use Rattle.format.specs.Claims.{Valid}
 use Rattle.format.specs.Layout.{leasesAt, dataAt, countSize, recordSize, dataOf}
 use Rattle.octets.proofs.NumberLaws.{length-digits}
@@ -30,11 +30,11 @@ module _ (p : Parts) (v : Valid p) where
   unfolding headOf
   length-head = length-append (frontOf p) _ ∙ rw (length-front, four-bytes p v)
 
-  pub length-tail : length (tailOf p) ≡ countSize + recordSize * extras (p .leases)
+  pub length-tail : length (tailOf p) ≡ tailSize (extras (p .leases))
   unfolding tailOf
   length-tail = simp (length-append, length-digits, extra-bytes p v)
 
-  pub used-view : used p ≡ dataAt + length (p .bytes) + (countSize + recordSize * extras (p .leases))
+  pub used-view : used p ≡ dataAt + length (p .bytes) + tailSize (extras (p .leases))
   unfolding used
   used-view = omega (arith, used-is (length (p .bytes)) (extras (p .leases)))
 
@@ -46,23 +46,23 @@ laid-encoded p s k c l e = rw e (l .is)
 
 -- A well-formed container in the view of its own parts.
 module _ (c : List ℕ) (f : Frame) (k : Known c f) where
-  used-known : used (partsOf c) ≡ dataAt + f .size + (countSize + recordSize * f .extras)
+  used-known : used (partsOf c) ≡ dataAt + f .size + tailSize (f .extras)
   unfolding partsOf
   used-known = used-view (partsOf c) (parts-valid c (k .formed)) ∙ rw (size-known k, extras-known k)
 
-  tail-known : length (tailOf (partsOf c)) ≡ countSize + recordSize * f .extras
+  tail-known : length (tailOf (partsOf c)) ≡ tailSize (f .extras)
   unfolding partsOf
   tail-known = length-tail (partsOf c) (parts-valid c (k .formed)) ∙ rw (extras-known k)
 
   encoded-known : encode (partsOf c)
       ≡ headOf (partsOf c)
       ++ (dataOf c
-      ++ (tailOf (partsOf c) ++ replicate (length c - (dataAt + f .size + (countSize + recordSize * f .extras))) 0))
+      ++ (tailOf (partsOf c) ++ replicate (length c - (dataAt + f .size + tailSize (f .extras))) 0))
   unfolding encode partsOf
   encoded-known = rw used-known
 
   pub formed-laid : Octets c
-      → Laid (length c) (f .size) (countSize + recordSize * f .extras) c (headOf (partsOf c)) (dataOf c)
+      → Laid (length c) (f .size) (tailSize (f .extras)) c (headOf (partsOf c)) (dataOf c)
       (tailOf (partsOf c))
   formed-laid o = record {
     is = sym (encode-parts c (k .formed) o) ∙ encoded-known;

@@ -12,7 +12,7 @@ use Rattle.octets.specs.Numbers.{numberAt}
 use Rattle.octets.specs.Strings.{allZero, same, join}
 use Rattle.format.specs.Layout.{magic, least, limit, offsetAt, leasesAt, dataAt, countAt, usedLength, sizeOf}
 use Rattle.format.specs.Layout.{dataOf, extrasOf, leasesOf, recordSize, records, fixedPlaces, countSize}
-use Rattle.format.specs.Layout.{nodeAt, sizeWidth, extraLimit}
+use Rattle.format.specs.Layout.{nodeAt, sizeWidth, extraLimit, extrasAt}
 use Rattle.format.specs.Container.{lengthAllowed, held, recordOk, lastHeld, fieldsOk, contentsOk, wellFormed}
 use Rattle.octets.specs.Lists.{every}
 use Rattle.octets.specs.Facts.{Each}
@@ -151,8 +151,8 @@ every-append (r ∷ a) b = ap (λ (t : Bool). recordOk r && t) (every-append a b
 pub length-leases : (c : List ℕ) → length (leasesOf c) ≡ fixedPlaces + extrasOf c
 unfolding leasesOf
 length-leases c = length-append (records fixedPlaces leasesAt c)
-    (records (extrasOf c) (countAt (sizeOf c) + countSize) c)
-    ∙ rw (length-records fixedPlaces leasesAt c, length-records (extrasOf c) (countAt (sizeOf c) + countSize) c)
+    (records (extrasOf c) (extrasAt (sizeOf c)) c)
+    ∙ rw (length-records fixedPlaces leasesAt c, length-records (extrasOf c) (extrasAt (sizeOf c)) c)
 
 -- ---- lease records, joined (records that reach past the end are cut short on both sides)
 pub join-records : (n p : ℕ) (c : List ℕ) → join (records n p c) ≡ take (recordSize * n) (drop p c)

@@ -1,5 +1,5 @@
 -- What judging a buffer answers, and what the code that goes on knows of the container.
-use Prim.Native.Nat.{ℕ}
+use Prim.Native.Nat.{ℕ, _+_}
 use mathlib.Core.Path.{_≡_}
 use mathlib.Core.Bool.{true, cond}
 use mathlib.Core.List.{List}
@@ -16,6 +16,13 @@ use Rattle.format.specs.declared.judging.Judged.the-variants.{BadLength,
 -- What the code keeps of a well-formed container.
 abbrev pub frameOf : List ℕ → Frame
 frameOf c = record { size = sizeOf c; extras = extrasOf c }
+
+-- The frame with another size of the data, and with one more extra lease.
+abbrev pub resizedTo : Frame → ℕ → Frame
+resizedTo f n = record { size = n; extras = f .extras }
+
+abbrev pub withExtra : Frame → Frame
+withExtra f = record { size = f .size; extras = f .extras + 1 }
 
 -- What reading the fields answers: the frame where they agree.
 abbrev pub fieldsFound : List ℕ → Fields

@@ -71,9 +71,13 @@ dataAt = leasesAt + fixedPlaces * recordSize
 unfoldable pub countAt : ℕ → ℕ
 countAt s = dataAt + s
 
+-- Where the extra leases begin, behind the count.
+abbrev pub extrasAt : ℕ → ℕ
+extrasAt s = countAt s + countSize
+
 -- The used length with s bytes of data and e extra leases.
 unfoldable pub usedLength : ℕ → ℕ → ℕ
-usedLength s e = countAt s + countSize + recordSize * e
+usedLength s e = extrasAt s + recordSize * e
 
 -- The shortest buffer holds the fields, no data and no extra lease; the longest.
 abbrev pub least : ℕ
@@ -105,7 +109,7 @@ records (suc n) p c = take recordSize (drop p c) ∷ records n (p + recordSize) 
 
 -- The lease places: the four, then the extras.
 unfoldable pub leasesOf : List ℕ → List (List ℕ)
-leasesOf c = records fixedPlaces leasesAt c ++ records (extrasOf c) (countAt (sizeOf c) + countSize) c
+leasesOf c = records fixedPlaces leasesAt c ++ records (extrasOf c) (extrasAt (sizeOf c)) c
 
 -- The fields of a lease record.
 unfoldable pub ownerOf : List ℕ → ℕ

@@ -6,7 +6,11 @@ use mathlib.Core.Bool.{cond}
 use mathlib.Core.List.{List, _++_}
 use lib.ListN.{length, replicate}
 use lib.Dec.{ltb}
-use Rattle.format.specs.Layout.{leasesAt, dataAt, countAt, countSize, recordSize, fixedPlaces}
+use Rattle.format.specs.Layout.{leasesAt, dataAt, extrasAt, countSize, recordSize, fixedPlaces}
+
+-- The size of the tail, count and e extra leases.
+abbrev pub tailSize : ℕ → ℕ
+tailSize e = countSize + recordSize * e
 
 -- c has n bytes: a head h, s bytes of data d, a tail t of k bytes, and zeros.
 pub record Laid (n s k : ℕ) (c h d t : List ℕ) : Type 0 where
@@ -19,4 +23,4 @@ pub record Laid (n s k : ℕ) (c h d t : List ℕ) : Type 0 where
 -- Where lease place i begins beside s bytes of data: the four, then the extras behind the count.
 unfoldable pub placeAt : ℕ → ℕ → ℕ
 placeAt s i =
-    cond (ltb i fixedPlaces) (leasesAt + recordSize * i) (countAt s + countSize + recordSize * (i - fixedPlaces))
+    cond (ltb i fixedPlaces) (leasesAt + recordSize * i) (extrasAt s + recordSize * (i - fixedPlaces))

@@ -1,11 +1,12 @@
 // The table of the container: sizes, places and limits, each derived from those before it.
 ghost use mathlib.Core.Path.{_≡_};
 ghost use Prim.Native.Nat.{_+_, _≤_};
-ghost use Rattle.format.specs.Layout.{countSize, leaseLimit, dataAt, limit, countAt, usedLength};
-ghost use Rattle.format.specs.View.{placeAt};
+ghost use Rattle.format.specs.Layout.{leaseLimit, dataAt, limit, countAt, extrasAt, usedLength};
+ghost use Rattle.format.specs.Judging.{resizedTo, withExtra};
+ghost use Rattle.format.specs.View.{tailSize, placeAt};
 
 // What a container begins with.
-pub const MAGIC: [u8; 32] = *b"tahoe mutable container v1\x0a\x75\x09\x44\x03\x8e";
+pub const MAGIC: [u8; MAGIC_SIZE] = *b"tahoe mutable container v1\x0a\x75\x09\x44\x03\x8e";
 
 pub(crate) const MAGIC_SIZE: usize = 32;
 
@@ -66,9 +67,9 @@ impl Frame {
         DATA_AT + self.size
     }
 
-    // Where the extra-lease count stands.
+    // Where the extra-lease count stands. The size may be one that a request would reach.
     pub fn count_at(self) -> usize
-        requires { ⌜ self .size ≤ limit ⌝ }
+        requires { ⌜ self .size ≤ 4294967296 ⌝ }
         ensures { λ r. ⌜ r ≡ countAt (self .size) ⌝ }
     {
         DATA_AT + self.size
@@ -77,9 +78,17 @@ impl Frame {
     // Where the extra leases begin.
     pub fn extras_at(self) -> usize
         requires { ⌜ self .size ≤ limit ⌝ }
-        ensures { λ r. ⌜ r ≡ countAt (self .size) + countSize ⌝ }
+        ensures { λ r. ⌜ r ≡ extrasAt (self .size) ⌝ }
     {
         self.count_at() + COUNT_SIZE
+    }
+
+    // The size of count and extra leases.
+    pub fn tail_size(self) -> usize
+        requires { ⌜ self .extras ≤ leaseLimit ⌝ }
+        ensures { λ r. ⌜ r ≡ tailSize (self .extras) ⌝ }
+    {
+        COUNT_SIZE + RECORD_SIZE * self.extras
     }
 
     // The used length.
@@ -87,16 +96,27 @@ impl Frame {
         requires { ⌜ (self .size ≤ 4294967296) × (self .extras ≤ leaseLimit) ⌝ }
         ensures { λ r. ⌜ r ≡ usedLength (self .size) (self .extras) ⌝ }
     {
-        LEAST + self.size + RECORD_SIZE * self.extras
+        self.count_at() + self.tail_size()
     }
 
     // The frame with another size of the data.
     pub fn resized(self, size: usize) -> Frame
-        ensures { λ r. ⌜ (r .size ≡ size) × (r .extras ≡ self .extras) ⌝ }
+        ensures { λ r. ⌜ r ≡ resizedTo self size ⌝ }
     {
         Frame {
             size: size,
             extras: self.extras,
+        }
+    }
+
+    // The frame with one more extra lease.
+    pub fn with_extra(self) -> Frame
+        requires { ⌜ self .extras ≤ leaseLimit ⌝ }
+        ensures { λ r. ⌜ r ≡ withExtra self ⌝ }
+    {
+        Frame {
+            size: self.size,
+            extras: self.extras + 1,
         }
     }
 

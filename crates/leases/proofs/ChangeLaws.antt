@@ -16,8 +16,7 @@ use Rattle.octets.specs.Moves.{put}
 use Rattle.octets.proofs.NumberLaws.{length-digits}
 use Rattle.octets.proofs.StringLaws.{zeros-are, octets-take, octets-drop}
 use Rattle.format.specs.Layout.{expiryOf, countSize, recordSize, fixedPlaces, leasesAt, dataAt, leasesOf}
-use Rattle.format.specs.View.{placeAt}
-use Rattle.format.specs.Layout.{dataOf, usedLength, countAt, records, expiryAt, renewalAt}
+use Rattle.format.specs.Layout.{dataOf, usedLength, countAt, extrasAt, records, expiryAt, renewalAt}
 use Rattle.format.specs.Container.{held, recordOk}
 use Rattle.format.specs.Claims.{Place, Valid}
 use Rattle.format.specs.Parts.{extras, Parts, frontOf, headOf, tailOf, partsOf, used, noLease}
@@ -27,7 +26,7 @@ use Rattle.format.proofs.RoundTrip.{encode-parts}
 use Rattle.rules.specs.Leasing.{later, withLast, trim, dropTail, extended}
 use Rattle.rules.specs.Outcomes.{withLeases}
 use Rattle.octets.proofs.MoveLaws.{put-over, put-right, put-inside, zeros-split}
-use Rattle.format.specs.View.{Laid}
+use Rattle.format.specs.View.{tailSize, Laid, placeAt}
 use Rattle.format.proofs.ViewLaws.{length-front, laid-encoded, formed-laid, put-head, put-behind, put-tail, tail-less}
 use Rattle.format.specs.Judging.{Known}
 use Rattle.format.proofs.WellFormed.{length-leases, used-is, count-is}
@@ -123,7 +122,7 @@ module _ (p : Parts) (v : Valid p) (i : ℕ) (r : List ℕ) (l : length r ≡ re
     unfolding headOf frontOf withLeases
     head-same = rw (take-set-le fixedPlaces ls i r g)
 
-    tail-set : put (countSize + recordSize * (i - fixedPlaces)) r (tailOf p) ≡ tailOf q
+    tail-set : put (tailSize (i - fixedPlaces)) r (tailOf p) ≡ tailOf q
     unfolding tailOf withLeases
     tail-set =
         let j : ℕ = i - fixedPlaces in
@@ -134,7 +133,7 @@ module _ (p : Parts) (v : Valid p) (i : ℕ) (r : List ℕ) (l : length r ≡ re
         let s : drop fixedPlaces (set ls i r) ≡ set x j r =
         ap (λ (m : ℕ). drop fixedPlaces (set ls m r)) z ∙ drop-set-add fixedPlaces ls j r in
         rw (extras-set ls i r, s)
-        (put-right (countSize + recordSize * j) (recordSize * j) r n (join x)
+        (put-right (tailSize j) (recordSize * j) r n (join x)
         (omega (arith, length-digits countSize (extras ls)))
         ∙ ap (λ (y : List ℕ). n ++ y) (put-joined x j r (each-drop _ fixedPlaces ls sizes) lx l))
 
@@ -221,18 +220,18 @@ later-same x r l o h =
 -- the extras of a view, read back
 extras-back : {n s k : ℕ} {c h d : List ℕ} (m : ℕ) (x : List (List ℕ)) →
     Laid n s k c h d (digits countSize m ++ join x) → Each (λ r. length r ≡ recordSize) x →
-    records (length x) (countAt s + countSize) c ≡ x
+    records (length x) (extrasAt s) c ≡ x
 extras-back {n} {s} {k} {c} {h} {d} m x l e =
     let z : List ℕ = replicate (n - (dataAt + s + k)) 0 in
     let t : List ℕ = digits countSize m ++ join x ++ z in
     let a : drop (dataAt + s) c ≡ t =
     ap (drop (dataAt + s)) (l .is) ∙ sym (drop-drop s dataAt (h ++ (d ++ t)))
     ∙ ap (drop s) (drop-at h (d ++ t) dataAt (l .head)) ∙ drop-at d t s (l .sized) in
-    let b : drop (countAt s + countSize) c ≡ join x ++ z =
+    let b : drop (extrasAt s) c ≡ join x ++ z =
     sym (drop-drop countSize (countAt s) c)
     ∙ ap (drop countSize) (ap (λ (i : ℕ). drop i c) (count-is s) ∙ a ∙ append-assoc (digits countSize m) (join x) z)
     ∙ drop-at (digits countSize m) (join x ++ z) countSize (length-digits countSize m) in
-    records-back (length x) (countAt s + countSize) c x z b refl e
+    records-back (length x) (extrasAt s) c x z b refl e
 
 pub used-leases : (c : List ℕ) (f : Frame) → Known c f → (ls : List (List ℕ)) →
     used (withLeases (partsOf c) ls) ≡ usedLength (f .size) (extras ls)
@@ -247,7 +246,7 @@ module _ (c : List ℕ) (f : Frame) (k : Known c f) (o : Octets c) where
   abbrev Leased : List (List ℕ) → ℕ → List ℕ → Type 0
   Leased ls m d = Laid (length c) (f .size) m d (headOf (withLeases P ls)) (dataOf c) (tailOf (withLeases P ls))
 
-  leased : (ls : List (List ℕ)) (m : ℕ) (d : List ℕ) → Leased ls m d → m ≡ countSize + recordSize * extras ls →
+  leased : (ls : List (List ℕ)) (m : ℕ) (d : List ℕ) → Leased ls m d → m ≡ tailSize (extras ls) →
       d ≡ leasedAs c ls
   unfolding withLeases partsOf
   leased ls m d l e =
@@ -255,7 +254,7 @@ module _ (c : List ℕ) (f : Frame) (k : Known c f) (o : Octets c) where
       (used-leases c f k ls ∙ rw e (omega (arith, used-is (f .size) (extras ls))))
 
   abbrev size : ℕ
-  size = countSize + recordSize * f .extras
+  size = tailSize (f .extras)
 
   valid : Valid P
   valid = parts-valid c (k .formed)
@@ -277,7 +276,7 @@ module _ (c : List ℕ) (f : Frame) (k : Known c f) (o : Octets c) where
       (put-head w (leasesAt + recordSize * i) r (omega arith)))
       (λ (b : fixedPlaces ≤ i).
       rw (extra-at (f .size) i b, ← head-same P valid i r l g b, ← tail-set P valid i r l g b)
-      (put-tail w (countAt (f .size) + countSize + j) (countSize + j) r (omega (arith, count-is (f .size)))
+      (put-tail w (extrasAt (f .size) + j) (countSize + j) r (omega (arith, count-is (f .size)))
       (omega arith)))
 
   pub put-place : (i : ℕ) (r : List ℕ) → i < fixedPlaces + f .extras → length r ≡ recordSize →
@@ -333,13 +332,13 @@ module _ (c : List ℕ) (f : Frame) (k : Known c f) (o : Octets c) where
     laid = rw e (laid-set i noLease h (no-lease .size))
 
     -- the extras as they stand then
-    extras-read : records (f .extras) (countAt (f .size) + countSize) d ≡ extra
+    extras-read : records (f .extras) (extrasAt (f .size)) d ≡ extra
     unfolding tailOf withLeases
     extras-read =
         rw (← extra-long)
         (extras-back (extras emptied) extra laid (each-drop _ fixedPlaces emptied (places-sizes emptied sound)))
 
-    pub drop-tail : (n : ℕ) → n ≡ length (trim (records (f .extras) (countAt (f .size) + countSize) d)) →
+    pub drop-tail : (n : ℕ) → n ≡ length (trim (records (f .extras) (extrasAt (f .size)) d)) →
         put (countAt (f .size)) (digits countSize n) d ≡ leasedAs c (dropTail emptied)
     unfolding withLeases
     drop-tail n q =

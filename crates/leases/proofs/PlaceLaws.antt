@@ -15,7 +15,7 @@ use Rattle.format.specs.declared.layout.Frame.{Frame}
 use borrow.Author.Count.{below-more}
 use Rattle.format.specs.Layout.{limit, leasesAt, countAt, sizeOf, extrasOf, records, leasesOf, fixedPlaces}
 use Rattle.format.specs.View.{placeAt}
-use Rattle.format.specs.Layout.{recordSize, countSize}
+use Rattle.format.specs.Layout.{recordSize, countSize, extrasAt}
 use Rattle.format.specs.Container.{held}
 use Rattle.format.proofs.WellFormed.{count-is, length-records, length-leases, records-add, record-at}
 use Rattle.rules.specs.Leasing.{firstOf, withLast, trim, present}
@@ -37,7 +37,7 @@ pub fixed-at : (s i : ℕ) → i < fixedPlaces → placeAt s i ≡ leasesAt + re
 unfolding placeAt
 fixed-at s i h = rw (lt-ltb i fixedPlaces h)
 
-pub extra-at : (s i : ℕ) → fixedPlaces ≤ i → placeAt s i ≡ countAt s + countSize + recordSize * (i - fixedPlaces)
+pub extra-at : (s i : ℕ) → fixedPlaces ≤ i → placeAt s i ≡ extrasAt s + recordSize * (i - fixedPlaces)
 unfolding placeAt
 extra-at s i h = rw (le-ltb i fixedPlaces h)
 
@@ -64,13 +64,13 @@ module _ (c : List ℕ) (f : Frame) (k : Known c f) (i : ℕ) (h : i < fixedPlac
       (λ g. rw (extra-at (f .size) i g, known-size k)
       (let z : i ≡ length a + (i - fixedPlaces) = rw (length-records fixedPlaces leasesAt c) (omega arith) in
       ap (λ (j : ℕ). getD (a ++ b) j []) z ∙ getD-append-add a b (i - fixedPlaces) []
-      ∙ record-at (extrasOf c) (countAt (sizeOf c) + countSize) (i - fixedPlaces) c (omega (arith, known-extras k))))
+      ∙ record-at (extrasOf c) (extrasAt (sizeOf c)) (i - fixedPlaces) c (omega (arith, known-extras k))))
     where
       a : List (List ℕ)
       a = records fixedPlaces leasesAt c
 
       b : List (List ℕ)
-      b = records (extrasOf c) (countAt (sizeOf c) + countSize) c
+      b = records (extrasOf c) (extrasAt (sizeOf c)) c
 
 -- the place at p, with the sizes
 pub record Inside (c : List ℕ) (f : Frame) (p : ℕ) : Type 0 where
@@ -161,12 +161,12 @@ present-few (suc n) p c = go (held (take recordSize (drop p c))) _ (present-few 
     go false m h = omega arith
 
 pub present-leases : (c : List ℕ) (f : Frame) → Known c f →
-    present (records fixedPlaces leasesAt c) + present (records (f .extras) (countAt (f .size) + countSize) c)
+    present (records fixedPlaces leasesAt c) + present (records (f .extras) (extrasAt (f .size)) c)
     ≡ present (leasesOf c)
 unfolding leasesOf
 present-leases c f k =
     rw (
-      present-append (records fixedPlaces leasesAt c) (records (extrasOf c) (countAt (sizeOf c) + countSize) c),
+      present-append (records fixedPlaces leasesAt c) (records (extrasOf c) (extrasAt (sizeOf c)) c),
       known-size k,
       known-extras k,
     )

@@ -51,10 +51,7 @@ fn place_new(c: &mut [u8], frame: Frame, lease: &[u8]) -> Done
             }
         }
         Found::Nowhere => {
-            let more = Frame {
-                size: frame.size,
-                extras: frame.extras + 1,
-            };
+            let more = frame.with_extra();
             if c.len() < more.used() {
                 return Done {
                     number: 11,

@@ -24,10 +24,11 @@ use Rattle.rules.specs.Requests.{allFrom, byKind, cutOf, cutOk, entryCount, ent
 use Rattle.rules.specs.Requests.{sumFrom, testCount, testEntryOk, testSize, testWriteEnd, testWriteOf, testWriteOk}
 use Rattle.rules.specs.Requests.{writesAt, Request, entryLimit, entrySpecimen, newDataAt, secretAt, testsAt}
 use Rattle.rules.specs.Requests.{writeCount, cutFlag, entryOpcode, newLength, paddingAt, addOk, cancelOk, readCount}
+use Rattle.rules.specs.Requests.{entryOk}
 use Rattle.rules.specs.Requests.{readOk, readsAt, renewOk, requestOf, kindOf}
 use Rattle.requests.specs.Cursors.{bodyAt, recordAt, headerAt, readHeaderAt}
 use Rattle.octets.specs.Lists.{isSome}
-use Rattle.requests.specs.Forms.{partedAs, testsPassed, writesPassed, Inside, Takes, asked, cutIn, entryOk}
+use Rattle.requests.specs.Forms.{partedAs, testsPassed, writesPassed, Inside, Takes, asked, cutIn}
 use Rattle.octets.proofs.ListLaws.{both, and-assoc, and-true, by-refuting}
 use Rattle.requests.proofs.CursorLaws.{count-below, specimen-below}
 use Rattle.format.specs.Layout.{secretSize, ownerOf, expiryOf, renewalOf, expiryAt, renewalAt, recordSize}

@@ -5,7 +5,7 @@ use mathlib.Core.Path.{_≡_}
 use mathlib.Core.Bool.{Bool, true, cond, not, _&&_}
 use mathlib.Core.List.{List}
 use mathlib.Core.Option.{Option, none, some}
-use lib.Dec.{eqb, leb}
+use lib.Dec.{eqb}
 use lib.ListN.{length}
 use Rattle.octets.specs.Lists.{isSome}
 use Rattle.format.specs.Layout.{recordSize, secretSize, expiryOf, renewalOf}
@@ -112,10 +112,6 @@ pub record Takes (q : List ℕ) (w : Option Request) (r : Form) : Type 0 where
   pub inside : Inside q r
 
 -- ---- steps on the way
--- An opcode 1 to 6 and a zero byte.
-abbrev pub entryOk : ℕ → ℕ → Bool
-entryOk opcode padding = leb 1 opcode && (leb opcode 6 && eqb padding 0)
-
 -- What passing over n entries from p on finds.
 abbrev pub testsPassed : ℕ → ℕ → List ℕ → TestsPassed
 testsPassed p n q = record {

@@ -2,8 +2,9 @@
 ghost use mathlib.Core.Path.{_≡_};
 ghost use Prim.Native.Nat.{_+_, _*_, _≤_};
 ghost use lib.ListN.{length};
-ghost use Rattle.rules.specs.Requests.{requestLimit, entryLimit, entrySize, testSize, cutOk, byKind, requestOf};
-ghost use Rattle.requests.specs.Forms.{entryOk, testsPassed, writesPassed, partedAs, Takes};
+ghost use Rattle.rules.specs.Requests.{requestLimit, entryLimit, entrySize, testSize, entryOk, cutOk, byKind};
+ghost use Rattle.rules.specs.Requests.{requestOf};
+ghost use Rattle.requests.specs.Forms.{testsPassed, writesPassed, partedAs, Takes};
 use crate::cursors::Body;
 use crate::cursors::Cursor;
 use crate::cursors::ENTRY_SIZE;

@@ -11,7 +11,7 @@ use lib.Dec.{leb}
 use borrow.Author.Tests.{ltb-false, leb-false}
 use Rattle.format.specs.Container.{held, lastHeld}
 use Rattle.format.specs.Layout.{expiryOf, renewalOf, usedLength, countAt, countSize, fixedPlaces, leaseLimit}
-use Rattle.format.specs.Layout.{recordSize}
+use Rattle.format.specs.Layout.{recordSize, extrasAt}
 use Rattle.format.specs.Parts.{Parts, used, extras, noLease}
 use Rattle.format.specs.Claims.{Place, Valid}
 use Rattle.octets.specs.Lists.{isSome, maybe}
@@ -81,7 +81,7 @@ leases-kept p ls v o f = record {
 pub used-fewer : (p : Parts) (ls : List (List ℕ)) → Valid p → length ls ≤ length (p .leases)
     → used (withLeases p ls) ≤ p .room
 unfolding withLeases used extras usedLength
-used-fewer p ls v h = let f : countAt (length (p .bytes)) + countSize + recordSize *
+used-fewer p ls v h = let f : extrasAt (length (p .bytes)) + recordSize *
     (length (p .leases) - fixedPlaces) ≤ p .room = v .fits in omega arith
 
 -- a lease record in a place

@@ -123,16 +123,13 @@ replyAfter c q r = cond (replies (outcome c q (length r))) (put 0 (replyBytes (p
 
 -- Create: rows 1, 3 and 12; a fresh container on 0.
 unfoldable pub createOutcome : List ℕ → List ℕ → List ℕ → ℕ
-createOutcome c node enabler =
-    firstRow
+createOutcome c node enabler = firstRow
     (row 1 (not (lengthAllowed c))
     ∷ row 3 (not (eqb (length node) nodeSize && eqb (length enabler) secretSize))
-    ∷ row 12 (same (take nodeAt c) magic)
-    ∷ [])
+    ∷ row 12 (same (take nodeAt c) magic) ∷ [])
 
 unfoldable pub createAnswer : List ℕ → List ℕ → List ℕ → Answer
 createAnswer c node enabler = answerOf (createOutcome c node enabler) noNode 0
 
 unfoldable pub createdContainer : List ℕ → List ℕ → List ℕ → List ℕ
-createdContainer c node enabler =
-    cond (eqb (createOutcome c node enabler) 0) (encode (fresh (length c) node enabler)) c
+createdContainer c node enabler = cond (eqb (createOutcome c node enabler) 0) (encode (fresh (length c) node enabler)) c

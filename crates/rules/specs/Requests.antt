@@ -64,8 +64,12 @@ entryOpcode p q = getD q (p + entrySize) 0
 unfoldable pub entrySpecimen : ℕ → List ℕ → ℕ
 entrySpecimen p q = numberAt 2 (p + (paddingAt + 1)) q
 
+-- A test's opcode is 1 to 6, and a zero byte follows it.
+abbrev pub entryOk : ℕ → ℕ → Bool
+entryOk opcode padding = leb 1 opcode && (leb opcode 6 && eqb padding 0)
+
 unfoldable pub testEntryOk : List ℕ → ℕ → Bool
-testEntryOk q p = leb 1 (entryOpcode p q) && (leb (entryOpcode p q) 6 && eqb (getD q (p + paddingAt) 0) 0)
+testEntryOk q p = entryOk (entryOpcode p q) (getD q (p + paddingAt) 0)
 
 -- Over n entries of a table, each `stride` bytes after the one before: do all pass; the sum of what they give.
 unfoldable pub allFrom : (ℕ → Bool) → ℕ → ℕ → ℕ → Bool

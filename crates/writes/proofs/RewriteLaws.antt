@@ -171,7 +171,7 @@ fields-put p u v l =
     ∙ rw (e, drop-of-length-le p {i = 2 * sizeWidth} (omega arith), append-nil)
 
 module _ (n s k : ℕ) (c h d t ys : List ℕ) (L : Laid n s k c h d t) where
-  pub fields-laid : (f : ℕ) → ys ≡ fieldsOf f (dataAt + f)
+  pub fields-laid : (f : ℕ) → ys ≡ fieldsOf f (countAt f)
       → Laid n s k (putMid sizeAt (leasesAt - sizeAt) c ys) (withSize f h) d t
   unfolding fieldsOf withSize
   fields-laid f y = record { is = back; head = lh; sized = L .sized; tail = L .tail; fits = L .fits }
@@ -199,13 +199,10 @@ module _ (n s k : ℕ) (c h d t ys : List ℕ) (L : Laid n s k c h d t) where
       lm : sizeAt + length m ≡ leasesAt
       lm = simp (length-take, length-drop) (omega (arith, L .head))
 
-      y' : ys ≡ new
-      y' = y ∙ rw (count-is f)
-
       back : putMid sizeAt (leasesAt - sizeAt) c ys ≡ (take sizeAt h ++ (new ++ drop leasesAt h)) ++ w
       back =
           lent-back sizeAt leasesAt c (take sizeAt h) m (drop leasesAt h ++ w) is lp lm ys
-          ∙ rw y' (sym (append-assoc (take sizeAt h) (new ++ drop leasesAt h) w ∙ rw (append-assoc new)))
+          ∙ rw y (sym (append-assoc (take sizeAt h) (new ++ drop leasesAt h) w ∙ rw (append-assoc new)))
 
       lh : length (take sizeAt h ++ (new ++ drop leasesAt h)) ≡ dataAt
       lh = simp (length-append, length-digits, length-take, length-drop) (omega (arith, L .head))

@@ -13,7 +13,7 @@ use Rattle.octets.proofs.NumberLaws.{length-digits}
 use Rattle.format.specs.Layout.{magic, sizeWidth, countSize, recordSize, fixedPlaces, sizeAt, leasesAt, dataAt}
 use Rattle.format.specs.Layout.{countAt, dataOf}
 use Rattle.format.specs.Parts.{Parts, extras, used, partsOf, frontOf, headOf, tailOf, encode}
-use Rattle.format.specs.View.{Laid}
+use Rattle.format.specs.View.{tailSize, Laid}
 use Rattle.format.specs.Claims.{Valid}
 use Rattle.format.specs.Judging.{Known}
 use Rattle.format.proofs.WellFormed.{used-is}
@@ -54,7 +54,7 @@ unfolding tailOf withBytes
 tail-written p d = refl
 
 used-written : (c d : List ℕ) (f : Frame) → Known c f
-    → used (withBytes (partsOf c) d) ≡ dataAt + length d + (countSize + recordSize * f .extras)
+    → used (withBytes (partsOf c) d) ≡ dataAt + length d + tailSize (f .extras)
 unfolding used withBytes partsOf
 used-written c d f k =
     rw (extras-known k) (omega (arith, used-is (length d) (f .extras)))
@@ -70,21 +70,21 @@ module _ (c e : List ℕ) (frame : Frame) (f : ℕ) (k : Known c frame) (o : Oct
   abbrev p : Parts
   p = partsOf c
 
-  abbrev pub tailSize : ℕ
-  tailSize = countSize + recordSize * frame .extras
+  abbrev pub kept-size : ℕ
+  kept-size = tailSize (frame .extras)
 
-  laid-written : (d : List ℕ) → Laid (length c) f tailSize e (withSize f (headOf p)) d (tailOf p)
+  laid-written : (d : List ℕ) → Laid (length c) f kept-size e (withSize f (headOf p)) d (tailOf p)
       → e ≡ encode (withBytes p d)
   unfolding partsOf withBytes
   laid-written d l =
       let h : withSize f (headOf p) ≡ headOf (withBytes p d) =
       ap (λ (n : ℕ). withSize n (headOf p)) (sym (l .sized)) ∙ head-written p d (parts-valid c (k .formed)) in
-      laid-encoded (withBytes p d) f tailSize e (rw (h, tail-written p d) at l)
+      laid-encoded (withBytes p d) f kept-size e (rw (h, tail-written p d) at l)
       (used-written c d frame k ∙ rw (l .sized))
 
   -- What turns the view so has made the encoding of the parts with the data rewritten.
   pub rewritten-whole : (ws : List Write) (cut : Option ℕ)
-      → Turns (frame .size) f tailSize (withSize f)
+      → Turns (frame .size) f kept-size (withSize f)
       (λ d. writeAll (map (clip f) (placed ws (frame .size))) (resize f d)) c e
       → f ≡ finalSize ws cut (frame .size) → e ≡ encode (withBytes (partsOf c) (rewritten ws cut (dataOf c)))
   rewritten-whole ws cut T g =

@@ -4,7 +4,7 @@ ghost use mathlib.Core.Path.{_≡_};
 ghost use mathlib.Core.List.{_++_, map};
 ghost use Prim.Native.Nat.{ℕ, _+_, _-_, _*_, _≤_};
 ghost use lib.ListN.{length, take, drop, replicate};
-ghost use Rattle.format.specs.Layout.{sizeWidth, dataAt};
+ghost use Rattle.format.specs.Layout.{sizeWidth, dataAt, limit};
 ghost use Rattle.format.specs.Parts.{partsOf, encode};
 ghost use Rattle.format.specs.Judging.{Known};
 ghost use Rattle.rules.specs.Writing.{writeAll, placed};
@@ -14,11 +14,9 @@ ghost use Rattle.requests.specs.Forms.{PartedIn, writesIn, writeIn};
 ghost use Rattle.writes.specs.Rewrite.{Turns, kept, fieldsOf, withSize, Final};
 ghost use Rattle.rules.specs.Sizes as writing;
 use crate::overlay::overlay_all;
-use format::layout::COUNT_SIZE;
 use format::layout::DATA_AT;
 use format::layout::Frame;
 use format::layout::LEASES_AT;
-use format::layout::RECORD_SIZE;
 use format::layout::SIZE_AT;
 use format::layout::SIZE_WIDTH;
 use requests::forms::Parted;
@@ -89,12 +87,14 @@ fn put_sizes(p: &mut [u8], size: usize, offset: usize)
     octets::numbers::put_u64(p, SIZE_WIDTH, offset as u64);
 }
 
-// The size f and the place of the count behind f bytes go into the head.
-fn put_fields(c: &mut [u8], f: usize)
-    requires { ⌜ dataAt + f ≤ length (now c) ⌝ }
-    ensures { λ _. ⌜ ((s k : ℕ) → Turns s s k (withSize f) kept (now (c .entry)) (now (c .exit))) ⌝ }
+// The data size and the place of the count go into the head.
+fn put_fields(c: &mut [u8], frame: Frame)
+    requires { ⌜ (dataAt ≤ length (now c)) × (frame .size ≤ limit) ⌝ }
+    ensures { λ _. ⌜ ((s k : ℕ) → Turns s s k (withSize (frame .size)) kept (now (c .entry)) (now (c .exit))) ⌝ }
 {
-    put_sizes(&mut c[SIZE_AT..LEASES_AT], f, DATA_AT + f);
+    let size = frame.size;
+    let count = frame.count_at();
+    put_sizes(&mut c[SIZE_AT..LEASES_AT], size, count);
 }
 
 // The writes go into data that has its final size f.
@@ -113,8 +113,8 @@ pub fn rewrite(c: &mut [u8], frame: Frame, q: &[u8], t: Parted, f: usize)
     ensures { λ _. ⌜ now (c .exit) ≡ encode (after (partsOf (now (c .entry))) (writeIn t (now (q .entry)))) ⌝ }
 {
     let size = frame.size;
-    let k = COUNT_SIZE + RECORD_SIZE * frame.extras;
+    let k = frame.tail_size();
     resize(c, size, f, k);
-    put_fields(c, f);
+    put_fields(c, frame.resized(f));
     write_data(c, f, q, t, size);
 }

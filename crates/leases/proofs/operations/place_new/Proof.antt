@@ -1,7 +1,10 @@
 -- The answer by the number of leases, the first empty place, and the room. Assumes nothing.
-use mathlib.Core.Path.{sym, _∙_}
+use mathlib.Core.Path.{_≡_, sym, ap, _∙_}
+use Prim.Native.Nat.{_+_}
 use native.Mathlib.Omega.{arith}
 use borrow.Author.Needs.{needs}
+use Rattle.format.specs.Layout.{usedLength}
+use Rattle.format.specs.declared.layout.Frame.{Frame}
 use Rattle.rules.specs.Leasing.{vacant}
 use Rattle.leases.proofs.PlaceLaws.{known-bounds}
 use Rattle.leases.proofs.OperationLaws.{Finds, found-inside, place-full, place-vacant, place-nowhere}
@@ -20,6 +23,12 @@ nowhere : (c : tie.After-enum-told) →
     let s = c .before .before .before .before .before .before .before .before .before in
     Finds (s .args .c .now) vacant Nowhere
 nowhere c = sym (c .enum-told .given .1) ∙ c .before .before .find-vacant .ensures
+
+-- the used length with one more extra
+more-used : (c : tie.After-used) →
+    let a = c .before .before .before .before .before .before .before .before .before .before .before .args in
+    c .used .result ≡ usedLength (a .frame .size) (a .frame .extras + 1)
+more-used c = c .used .ensures ∙ ap (λ (f : Frame). usedLength (f .size) (f .extras)) (c .before .with-extra .ensures)
 
 count-leases-requires : tie.Need-count-leases-requires
 count-leases-requires c κs = search needs
@@ -51,9 +60,9 @@ add-t17 c = search needs
 enum-told : tie.Need-enum-told
 enum-told c = search needs
 
-add-if2 : tie.Need-add-if2
-add-if2 c =
-    let s = c .before .before .before .before .before .before .before .before .before .before in
+with-extra-requires : tie.Need-with-extra-requires
+with-extra-requires c κs =
+    let s = c .before .before .before .before .before .before .before .before .before in
     let z = known-bounds _ _ (s .pre .0) in
     omega arith
 
@@ -61,7 +70,8 @@ used-requires : tie.Need-used-requires
 used-requires c κs =
     let s = c .before .before .before .before .before .before .before .before .before .before in
     let z = known-bounds _ _ (s .pre .0) in
-    (omega arith, omega arith)
+    let e = c .with-extra .ensures in
+    (omega (arith, ap (λ (f : Frame). f .size) e), omega (arith, ap (λ (f : Frame). f .extras) e))
 
 same-length-2 : tie.Need-same-length-2
 same-length-2 c = search needs
@@ -72,12 +82,12 @@ returns-2 c =
     let n = w .before .before .before .before .before in
     let s = n .before .before .before .before in
     place-nowhere (s .args .c .now) _ (s .pre .0) (s .args .lease .now) (s .pre .3) _ (omega arith)
-    (n .count-leases .ensures) (nowhere w) (omega (arith, c .before .used .ensures))
+    (n .count-leases .ensures) (nowhere w) (omega (arith, more-used (c .before)))
 
 append-record-requires : tie.Need-append-record-requires
 append-record-requires c κs =
     let s = c .before .before .before .before .before .before .before .before .before .before .before .before .before in
-    (s .pre .0, omega (arith, c .before .before .used .ensures), s .pre .1)
+    (s .pre .0, omega (arith, more-used (c .before .before)), s .pre .1)
 
 add-t18 : tie.Need-add-t18
 add-t18 c = search needs
@@ -103,7 +113,7 @@ returns-4 c =
     let n = w .before .before .before .before .before in
     let s = n .before .before .before .before in
     place-extra (s .args .c .now) _ (s .pre .0) (s .args .lease .now) (s .pre .3) _ (omega arith)
-    (n .count-leases .ensures) (nowhere w) _ (omega (arith, u .used .ensures)) (s .pre .2)
+    (n .count-leases .ensures) (nowhere w) _ (omega (arith, more-used u)) (s .pre .2)
     (c .before .before .append-record .ensures)
 
 pub place-new-spec : {M : Type 1} → statement M
@@ -118,7 +128,7 @@ place-new-spec =
     put-record-requires
     add-t17
     enum-told
-    add-if2
+    with-extra-requires
     used-requires
     same-length-2
     returns-2

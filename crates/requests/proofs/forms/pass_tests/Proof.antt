@@ -7,7 +7,7 @@ use lib.ListN.{length}
 use Rattle.rules.specs.Requests.{entryLimit, testSize, testEntryOk}
 use Rattle.requests.proofs.FormLaws.{Testing, testing-start, testing-next, testing-end, test-entry-ok}
 use Rattle.requests.proofs.FormLaws.{times-next, specimens-most, testing-bound}
-use Rattle.requests.specs.Forms.{entryOk}
+use Rattle.rules.specs.Requests.{entryOk}
 use Rattle.requests.specs.declared.cursors.TestEntry.{TestEntry}
 use borrow.Author.Needs.{needs}
 use Rattle.requests.proofs.forms.pass_tests.Statement.{statement}

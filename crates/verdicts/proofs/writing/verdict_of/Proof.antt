@@ -77,9 +77,8 @@ used-requires : tie.Need-used-requires
 used-requires c κs =
     let s = c .before .before .before .before .before .before .before .before .before .before .before .before .before in
     let b = final-bound (found (c .before .before .before .before .before .before)) in
-    let r = c .resized .ensures in
     let k = known-room (s .pre .0) in
-    (omega (arith, s .pre .1 .short), omega arith)
+    rw (c .resized .ensures) (omega (arith, s .pre .1 .short), omega arith)
 
 fit-requires : tie.Need-fit-requires
 fit-requires c κs = search needs
@@ -87,11 +86,11 @@ fit-requires c κs = search needs
 returns-3 : tie.Need-returns-3
 returns-3 c =
     let F = found (c .before .before .before .before .before .before .before .before) in
-    let r = c .before .before .resized .ensures in
     let g : c .fit .result
     ≡ firstRow
     (fits F (c .before .before .before .before .before .before .before .before .before .before .before .before
-    .before .before .before .args .space)) = rw (c .before .used .ensures, r .0, r .1) at (c .fit .ensures) in
+    .before .before .before .args .space)) =
+    rw (c .before .used .ensures, c .before .before .resized .ensures) at (c .fit .ensures) in
     fit-verdict F
     (c .before .before .before .before .before .before .before .before .before .before .before .before .before
     .before .before .args .space) _ (admitted (c .before .before .before .before .before .before))
