@@ -19,7 +19,7 @@ use Rattle.format.proofs.WellFormed.{data-length, formed-facts, used-is}
 use Rattle.rules.proofs.OutcomeLaws.{formed-length}
 use Rattle.format.proofs.JudgingLaws.{judged-formed, judged-length, judged-malformed, length-unformed}
 use Rattle.octets.specs.Numbers.{number}
-use Rattle.format.proofs.KnownLaws.{known-size}
+use Rattle.format.proofs.KnownLaws.{frame-size}
 
 pub beyond-is : (p : ℕ × ℕ) (n : ℕ) → _≡_ {A = ℕ × ℕ} (p .0, n + p .1) (beyond p n)
 beyond-is p n = rw add-comm
@@ -88,4 +88,4 @@ pub lent-formed : (c : List ℕ) (f : Frame) (e : ℕ) → Judges c (Formed f) �
 unfolding lentOf firstRow
 lent-formed c f e j k =
     let h = judged-formed c f j in
-    rw (formed-length c (h .formed), h .formed, k, known-size h)
+    rw (formed-length c (h .formed), h .formed, k, frame-size h)

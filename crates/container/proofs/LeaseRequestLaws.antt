@@ -19,7 +19,6 @@ use Rattle.rules.specs.Outcomes.{findRows}
 use Rattle.rules.proofs.OutcomeLaws.{outcome-formed}
 use Rattle.leases.specs.Operations.{leaseOutcome, leaseDone, leaseContainer}
 use Rattle.octets.specs.Lists.{maybe}
-use Rattle.octets.specs.Numbers.{number}
 use Rattle.leases.specs.declared.operations.Done.{Done}
 use Rattle.rules.specs.declared.Answer.{Answer}
 

@@ -26,7 +26,6 @@ use Rattle.replies.specs.Pieces.{piecesIn}
 use Rattle.rules.specs.Testing.{replyOf}
 use Rattle.rules.proofs.OutcomeLaws.{outcome-formed}
 use Rattle.replies.proofs.PieceLaws.{test-pieces}
-use Rattle.rules.proofs.RequestLaws.{tests}
 
 -- ---- what follows from the number
 short-no : (a b : Bool) (n m : ℕ) (rs : List Row)

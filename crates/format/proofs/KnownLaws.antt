@@ -21,28 +21,28 @@ leases-extras c = omega (arith, length-leases c)
 
 module _ {c : List ℕ} {f : Frame} (K : Known c f) where
   -- The frame's numbers, as the fields have them.
-  pub known-size : f .size ≡ sizeOf c
-  known-size = ap (λ (x : Frame). x .size) (K .is)
+  pub frame-size : f .size ≡ sizeOf c
+  frame-size = ap (λ (x : Frame). x .size) (K .is)
 
-  pub known-extras : f .extras ≡ extrasOf c
-  known-extras = ap (λ (x : Frame). x .extras) (K .is)
+  pub frame-extras : f .extras ≡ extrasOf c
+  frame-extras = ap (λ (x : Frame). x .extras) (K .is)
 
   -- The same, as the parts have them.
-  pub size-known : length (dataOf c) ≡ f .size
-  size-known = data-length c (K .formed) ∙ sym known-size
+  pub data-framed : length (dataOf c) ≡ f .size
+  data-framed = data-length c (K .formed) ∙ sym frame-size
 
-  pub extras-known : extras (leasesOf c) ≡ f .extras
-  extras-known = leases-extras c ∙ sym known-extras
+  pub extras-framed : extras (leasesOf c) ≡ f .extras
+  extras-framed = leases-extras c ∙ sym frame-extras
 
   pub known-room : (least + f .size + recordSize * f .extras ≤ length c) × (length c ≤ limit) × (f .extras ≤ extraLimit)
   known-room = let z = known-sized c f K in (z .fits, known-most c f K, z .few)
 
   module _ {e : ℕ} (E : e ≡ dataAt + f .size) where
-    pub lent-is : lent c e ≡ dataOf c
+    pub data-lent : lent c e ≡ dataOf c
     unfolding dataOf
-    lent-is =
-        let n : e - dataAt ≡ sizeOf c = omega (arith, known-size) in
+    data-lent =
+        let n : e - dataAt ≡ sizeOf c = omega (arith, frame-size) in
         ap (λ (k : ℕ). take k (drop dataAt c)) n
 
     pub lent-small : length (lent c e) ≤ limit
-    lent-small = rw (lent-is, size-known) (omega (arith, known-room))
+    lent-small = rw (data-lent, data-framed) (omega (arith, known-room))

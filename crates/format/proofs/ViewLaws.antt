@@ -16,7 +16,7 @@ use Rattle.octets.specs.Facts.{Octets}
 use Rattle.format.proofs.RoundTrip.{parts-valid, encode-parts, four-bytes, extra-bytes}
 use Rattle.format.proofs.WellFormed.{used-is}
 use Rattle.format.proofs.JudgingLaws.{known-sized}
-use Rattle.format.proofs.KnownLaws.{size-known, extras-known}
+use Rattle.format.proofs.KnownLaws.{data-framed, extras-framed}
 use Rattle.octets.specs.Moves.{put}
 use Rattle.octets.proofs.MoveLaws.{put-left, put-right, put-length, put-zeros, zeros-split}
 
@@ -48,11 +48,11 @@ laid-encoded p s k c l e = rw e (l .is)
 module _ (c : List ℕ) (f : Frame) (k : Known c f) where
   used-known : used (partsOf c) ≡ dataAt + f .size + tailSize (f .extras)
   unfolding partsOf
-  used-known = used-view (partsOf c) (parts-valid c (k .formed)) ∙ rw (size-known k, extras-known k)
+  used-known = used-view (partsOf c) (parts-valid c (k .formed)) ∙ rw (data-framed k, extras-framed k)
 
   tail-known : length (tailOf (partsOf c)) ≡ tailSize (f .extras)
   unfolding partsOf
-  tail-known = length-tail (partsOf c) (parts-valid c (k .formed)) ∙ rw (extras-known k)
+  tail-known = length-tail (partsOf c) (parts-valid c (k .formed)) ∙ rw (extras-framed k)
 
   encoded-known : encode (partsOf c)
       ≡ headOf (partsOf c)
@@ -67,7 +67,7 @@ module _ (c : List ℕ) (f : Frame) (k : Known c f) where
   formed-laid o = record {
     is = sym (encode-parts c (k .formed) o) ∙ encoded-known;
     head = length-head (partsOf c) (parts-valid c (k .formed));
-    sized = size-known k;
+    sized = data-framed k;
     tail = tail-known;
     fits = omega (arith, known-sized c f k .fits);
   }

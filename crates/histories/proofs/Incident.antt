@@ -22,7 +22,7 @@ use Rattle.rules.specs.Changes.{Change, wrote, cutAt, sizeBy, sizeAfter, says, 
 use Rattle.rules.specs.Changes.{changesOf}
 use Rattle.histories.specs.Accepted.{took, accepted}
 use Rattle.histories.specs.Claims.{Demand3}
-use Rattle.histories.specs.Incident.{Cuts, later, Untouched, middle, end, Forgets, Incident}
+use Rattle.histories.specs.Incident.{Cuts, laterChanges, Untouched, middle, end, Forgets, Incident}
 use Rattle.histories.proofs.Demand3.{demand-3}
 use Rattle.octets.proofs.ListLaws.{lastSaid-append, newer-assoc}
 
@@ -42,12 +42,6 @@ cut-forgets a b m i h =
     ap (λ (z : Option ℕ). orElse z 0) e ∙ zero-under y x
 
 -- ---- the changes of a history in two stretches
-pub answers-append : (h k : List Call) (c : List ℕ) →
-    answers hears leaves (h ++ k) c ≡ answers hears leaves h c ++ answers hears leaves k (final leaves h c)
-unfolding answers final
-answers-append [] k c = refl
-answers-append (x ∷ h) k c = ap (λ (l : List Heard). hears x c ∷ l) (answers-append h k (leaves x c))
-
 sizeAfter-append : (a b : List Change) (n : ℕ) → sizeAfter (a ++ b) n ≡ sizeAfter b (sizeAfter a n)
 unfolding sizeAfter
 sizeAfter-append [] b n = refl
@@ -114,7 +108,7 @@ module _ (b node enabler : List ℕ) (fresh : createOutcome b node enabler ≡ 0
   c = createdContainer b node enabler
 
   since : List Change
-  since = later after (middle c before x)
+  since = laterChanges after (middle c before x)
 
   incident-byte : (i : ℕ) → m ≤ i → getD (dataOf (end c before x after)) i 0 ≡ byteAfter since i
   unfolding since

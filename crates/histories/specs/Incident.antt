@@ -1,4 +1,4 @@
--- The incident: bytes from before a cut showed up again inside a later gap. What is claimed against it, over whole
+-- The incident: bytes from before a cut showed up again inside a laterChanges gap. What is claimed against it, over whole
 -- histories. Proved in proofs/Incident.antt.
 use Prim.Native.Nat.{ℕ, _+_, _≤_, _<_}
 use mathlib.Core.Path.{_≡_}
@@ -25,8 +25,8 @@ pub record Cuts (x : Call) (c : List ℕ) (m : ℕ) : Type 0 where
   pub done : hears x c .answer .number ≡ 0
 
 -- The accepted writes and cuts of the calls h, the first of them on container bytes c.
-abbrev pub later : List Call → List ℕ → List Change
-later h c = accepted h (answers hears leaves h c) (length (dataOf c))
+abbrev pub laterChanges : List Call → List ℕ → List Change
+laterChanges h c = accepted h (answers hears leaves h c) (length (dataOf c))
 
 -- A change that writes no byte at place i.
 abbrev pub Untouched : ℕ → Change → Type 0
@@ -44,12 +44,12 @@ end c before x after = final leaves ((before ++ (x ∷ [])) ++ after) c
 pub record Forgets (c : List ℕ) (before : List Call) (x : Call) (after : List Call) (m : ℕ) : Type 0 where
   -- each data byte is what the calls after x put there, otherwise zero
   pub bytes : (i : ℕ) → m ≤ i →
-      getD (dataOf (end c before x after)) i 0 ≡ byteAfter (later after (middle c before x)) i
+      getD (dataOf (end c before x after)) i 0 ≡ byteAfter (laterChanges after (middle c before x)) i
   -- so is each byte that a read of n bytes at o gives
   pub reads : (o n j : ℕ) → j < n → m ≤ o + j →
-      getD (piece (dataOf (end c before x after)) (pos o) n) j 0 ≡ byteAfter (later after (middle c before x)) (o + j)
+      getD (piece (dataOf (end c before x after)) (pos o) n) j 0 ≡ byteAfter (laterChanges after (middle c before x)) (o + j)
   -- a place that none of those calls wrote holds zero
-  pub zeros : (i : ℕ) → m ≤ i → Each (Untouched i) (later after (middle c before x)) →
+  pub zeros : (i : ℕ) → m ≤ i → Each (Untouched i) (laterChanges after (middle c before x)) →
       getD (dataOf (end c before x after)) i 0 ≡ 0
 
 -- The incident cannot happen again: in every history from a fresh container, whatever comes before an accepted cut to m

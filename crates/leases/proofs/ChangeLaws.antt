@@ -33,7 +33,7 @@ use Rattle.format.proofs.WellFormed.{length-leases, used-is, count-is}
 use Rattle.leases.specs.Changes.{leasedAs}
 use Rattle.leases.proofs.PlaceLaws.{known-places, by-place, fixed-at, extra-at, lease-at, place-inside}
 use Rattle.leases.proofs.PlaceLaws.{part-part}
-use Rattle.format.proofs.KnownLaws.{size-known, extras-known}
+use Rattle.format.proofs.KnownLaws.{data-framed, extras-framed}
 use Rattle.rules.proofs.LeaseLaws.{each-set, length-trim, length-later}
 use Rattle.format.specs.declared.layout.Frame.{Frame}
 
@@ -236,7 +236,7 @@ extras-back {n} {s} {k} {c} {h} {d} m x l e =
 pub used-leases : (c : List ℕ) (f : Frame) → Known c f → (ls : List (List ℕ)) →
     used (withLeases (partsOf c) ls) ≡ usedLength (f .size) (extras ls)
 unfolding used withLeases partsOf
-used-leases c f k ls = rw (size-known k)
+used-leases c f k ls = rw (data-framed k)
 
 module _ (c : List ℕ) (f : Frame) (k : Known c f) (o : Octets c) where
   abbrev P : Parts
@@ -282,7 +282,7 @@ module _ (c : List ℕ) (f : Frame) (k : Known c f) (o : Octets c) where
   pub put-place : (i : ℕ) (r : List ℕ) → i < fixedPlaces + f .extras → length r ≡ recordSize →
       put (placeAt (f .size) i) r c ≡ leasedAs c (set (leasesOf c) i r)
   put-place i r h l =
-      leased (set (leasesOf c) i r) size _ (laid-set i r h l) (rw (extras-set (leasesOf c) i r, extras-known k))
+      leased (set (leasesOf c) i r) size _ (laid-set i r h l) (rw (extras-set (leasesOf c) i r, extras-framed k))
 
   -- a new extra
   pub put-extra : (r : List ℕ) → usedLength (f .size) (f .extras + 1) ≤ length c → length r ≡ recordSize →
@@ -292,7 +292,7 @@ module _ (c : List ℕ) (f : Frame) (k : Known c f) (o : Octets c) where
   put-extra r h l =
       let ls : List (List ℕ) = leasesOf c ++ (r ∷ []) in
       let n : List ℕ = digits countSize (f .extras + 1) in
-      let e = extras-known k in
+      let e = extras-framed k in
       let u = used-is (f .size) in
       let b = put-behind (formed-laid c f k o) (usedLength (f .size) (f .extras)) r (omega (arith, u (f .extras)))
       (omega (arith, h, u (f .extras + 1))) in
@@ -322,7 +322,7 @@ module _ (c : List ℕ) (f : Frame) (k : Known c f) (o : Octets c) where
     as-long = rw (length-set (leasesOf c) i noLease) long
 
     as-many : extras emptied ≡ f .extras
-    as-many = extras-set (leasesOf c) i noLease ∙ extras-known k
+    as-many = extras-set (leasesOf c) i noLease ∙ extras-framed k
 
     extra-long : length extra ≡ f .extras
     unfolding extras

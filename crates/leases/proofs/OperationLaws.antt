@@ -13,7 +13,7 @@ use Rattle.octets.specs.Numbers.{numberAfter, number, numberAt}
 use Rattle.format.specs.Layout.{ownerOf, renewalOf, cancelOf, expiryOf, leasesOf, fixedPlaces, recordSize, cancelAt}
 use Rattle.format.specs.Layout.{leaseLimit, renewalAt, usedLength}
 use Rattle.format.specs.Container.{held}
-use Rattle.format.specs.Parts.{Parts, used, extras, partsOf, noLease}
+use Rattle.format.specs.Parts.{Parts, used, partsOf, noLease}
 use Rattle.format.specs.Claims.{Place, Valid}
 use Rattle.octets.proofs.ListLaws.{both, is-none, and-false}
 use Rattle.format.proofs.RoundTrip.{parts-valid}
@@ -29,7 +29,7 @@ use Rattle.format.specs.Judging.{Known}
 use Rattle.leases.specs.Places.{hasToken, foundOf}
 use Rattle.leases.specs.Operations.{leaseOutcome, leaseDone, leaseContainer}
 use Rattle.leases.proofs.PlaceLaws.{present-append, known-places}
-use Rattle.format.proofs.KnownLaws.{extras-known}
+use Rattle.format.proofs.KnownLaws.{extras-framed}
 use Rattle.leases.specs.Changes.{leasedAs}
 use Rattle.leases.proofs.ChangeLaws.{used-leases, extras-more}
 use Rattle.leases.specs.declared.places.Found.the-variants.{At, Nowhere}
@@ -295,7 +295,7 @@ module _ (c : List ℕ) (f : Frame) (k : Known c f) where
           used-more : used (withLeases (partsOf c) (leasesOf c ++ (r ∷ []))) ≡ usedLength (f .size) (f .extras + 1)
           used-more =
               used-leases c f k (leasesOf c ++ (r ∷ []))
-              ∙ rw (extras-more (leasesOf c) r (omega (arith, known-places c f k)), extras-known k)
+              ∙ rw (extras-more (leasesOf c) r (omega (arith, known-places c f k)), extras-framed k)
 
           pub place-nowhere : length c < usedLength (f .size) (f .extras + 1) → Answered c (add r) 11 0 c
           unfolding partsOf

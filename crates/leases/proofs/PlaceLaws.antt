@@ -23,14 +23,14 @@ use Rattle.rules.proofs.LeaseLaws.{length-trim}
 use Rattle.format.specs.Judging.{Known}
 use Rattle.octets.specs.Lists.{maybe}
 use Rattle.format.proofs.JudgingLaws.{Sized, known-sized, known-most}
-use Rattle.format.proofs.KnownLaws.{known-size, known-extras}
+use Rattle.format.proofs.KnownLaws.{frame-size, frame-extras}
 
 -- ---- a known container in numbers
 pub known-bounds : (c : List ℕ) (f : Frame) → Known c f → Sized c f × (length c ≤ limit)
 known-bounds c f k = (known-sized c f k, known-most c f k)
 
 pub known-places : (c : List ℕ) (f : Frame) → Known c f → length (leasesOf c) ≡ fixedPlaces + f .extras
-known-places c f k = rw (known-extras k) (length-leases c)
+known-places c f k = rw (frame-extras k) (length-leases c)
 
 -- ---- one place
 pub fixed-at : (s i : ℕ) → i < fixedPlaces → placeAt s i ≡ leasesAt + recordSize * i
@@ -61,10 +61,10 @@ module _ (c : List ℕ) (f : Frame) (k : Known c f) (i : ℕ) (h : i < fixedPlac
   lease-at = by-place i
       (λ g. rw (fixed-at (f .size) i g)
       (List·getD-append a b [] i (rw (length-records fixedPlaces leasesAt c) g) ∙ record-at fixedPlaces leasesAt i c g))
-      (λ g. rw (extra-at (f .size) i g, known-size k)
+      (λ g. rw (extra-at (f .size) i g, frame-size k)
       (let z : i ≡ length a + (i - fixedPlaces) = rw (length-records fixedPlaces leasesAt c) (omega arith) in
       ap (λ (j : ℕ). getD (a ++ b) j []) z ∙ getD-append-add a b (i - fixedPlaces) []
-      ∙ record-at (extrasOf c) (extrasAt (sizeOf c)) (i - fixedPlaces) c (omega (arith, known-extras k))))
+      ∙ record-at (extrasOf c) (extrasAt (sizeOf c)) (i - fixedPlaces) c (omega (arith, frame-extras k))))
     where
       a : List (List ℕ)
       a = records fixedPlaces leasesAt c
@@ -167,8 +167,8 @@ unfolding leasesOf
 present-leases c f k =
     rw (
       present-append (records fixedPlaces leasesAt c) (records (extrasOf c) (extrasAt (sizeOf c)) c),
-      known-size k,
-      known-extras k,
+      frame-size k,
+      frame-extras k,
     )
 
 -- ---- without the empty tail

@@ -21,6 +21,9 @@ const REQUEST_LIMIT: usize = 65536;
 
 const ENTRY_LIMIT: usize = 16;
 
+// The opcodes are 1 to 6.
+const LAST_OPCODE: u8 = 6;
+
 // Where the tables begin: of a test-and-write, of a read.
 const TESTS_AT: usize = 1 + HEADER_SIZE + SECRET_SIZE;
 
@@ -79,7 +82,7 @@ fn entry_ok(opcode: u8, padding: u8) -> bool
     if opcode < 1 {
         return false;
     }
-    if 6 < opcode {
+    if LAST_OPCODE < opcode {
         return false;
     }
     padding == 0

@@ -28,7 +28,7 @@ use Rattle.rules.specs.Outcomes.{roomRows, requestRows, outcome, replies
 use Rattle.rules.specs.Outcomes.{answerTo, answered, replyAfter, containerAfter, createOutcome}
 use Rattle.rules.specs.Outcomes.{createdContainer, admitRows, findRows}
 use Rattle.octets.specs.Rows.{firstRow}
-use Rattle.rules.specs.Edges.{enabler, put, testAndWrite, given, Case, Outcome, cases, results, request62}
+use Rattle.rules.specs.Edges.{enabler, bytesAt, testAndWrite, given, Case, Outcome, cases, results, request62}
 use Rattle.rules.specs.Edges.{empty, nines, EdgesHold, numbers, finally, usedIn, result}
 use Rattle.rules.proofs.WriteLaws.{no-gap}
 
@@ -67,7 +67,7 @@ record Computed : Type 0 where
       map result (take 1 (drop 2 (cases long))) ≡ take 1 (drop 2 results)
   p2-to-p5 : map result (take 7 (drop 3 (cases []))) ≡ take 7 (drop 3 results)
   far-request :
-      requestOf (testAndWrite [] (put 2147483647 (65 ∷ []) ∷ []) 1 10) ≡ some (testWrite enabler [] far (some 10))
+      requestOf (testAndWrite [] (bytesAt 2147483647 (65 ∷ []) ∷ []) 1 10) ≡ some (testWrite enabler [] far (some 10))
   far-resolves : writesResolve far 0 ≡ true
   p6 : (q : List ℕ) (ws : List Write) → requestOf q ≡ some (testWrite enabler [] ws (some 10)) →
       writesResolve ws 0 ≡ true → rewritten ws (some 10) [] ≡ replicate 10 0 →

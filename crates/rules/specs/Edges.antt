@@ -54,8 +54,8 @@ testAndWrite ts ws flag new =
     ++ (join (map (λ t. t .specimen) ts) ++ join (map (λ w. w .bytes) ws))))))
 
 -- Short names: a write, a test, and a request that only writes.
-abbrev pub put : ℕ → List ℕ → Put
-put at bs = record { at = at; bytes = bs }
+abbrev pub bytesAt : ℕ → List ℕ → Put
+bytesAt at bs = record { at = at; bytes = bs }
 
 abbrev pub check : ℕ → ℕ → ℕ → List ℕ → Check
 check at n op s = record { at = at; count = n; opcode = op; specimen = s }
@@ -118,20 +118,20 @@ cases long =
     given 472 []
     ∷ given 471 []
     ∷ record { buffer = long; requests = [] }
-    ∷ given 472 (write (put 0 (1 ∷ []) ∷ []) ∷ [])
-    ∷ given 473 (write (put 0 (1 ∷ []) ∷ []) ∷ [])
-    ∷ given 473 (write (put 0 (1 ∷ 2 ∷ []) ∷ []) ∷ [])
-    ∷ given 500 (write (put 3 (65 ∷ 66 ∷ []) ∷ []) ∷ [])
-    ∷ given 500 (write (put 3 (65 ∷ 66 ∷ []) ∷ []) ∷ testAndWrite [] [] 1 2 ∷ write (put 4 (90 ∷ []) ∷ []) ∷ [])
-    ∷ given 500 (write (put 0 (65 ∷ 65 ∷ 65 ∷ 65 ∷ []) ∷ put 2 (66 ∷ 66 ∷ []) ∷ []) ∷ [])
-    ∷ given 500 (write (put 2 (66 ∷ 66 ∷ []) ∷ put 0 (65 ∷ 65 ∷ 65 ∷ 65 ∷ []) ∷ []) ∷ [])
-    ∷ given 482 (testAndWrite [] (put 2147483647 (65 ∷ []) ∷ []) 1 10 ∷ [])
-    ∷ given 481 (testAndWrite [] (put 2147483647 (65 ∷ []) ∷ []) 1 10 ∷ [])
+    ∷ given 472 (write (bytesAt 0 (1 ∷ []) ∷ []) ∷ [])
+    ∷ given 473 (write (bytesAt 0 (1 ∷ []) ∷ []) ∷ [])
+    ∷ given 473 (write (bytesAt 0 (1 ∷ 2 ∷ []) ∷ []) ∷ [])
+    ∷ given 500 (write (bytesAt 3 (65 ∷ 66 ∷ []) ∷ []) ∷ [])
+    ∷ given 500 (write (bytesAt 3 (65 ∷ 66 ∷ []) ∷ []) ∷ testAndWrite [] [] 1 2 ∷ write (bytesAt 4 (90 ∷ []) ∷ []) ∷ [])
+    ∷ given 500 (write (bytesAt 0 (65 ∷ 65 ∷ 65 ∷ 65 ∷ []) ∷ bytesAt 2 (66 ∷ 66 ∷ []) ∷ []) ∷ [])
+    ∷ given 500 (write (bytesAt 2 (66 ∷ 66 ∷ []) ∷ bytesAt 0 (65 ∷ 65 ∷ 65 ∷ 65 ∷ []) ∷ []) ∷ [])
+    ∷ given 482 (testAndWrite [] (bytesAt 2147483647 (65 ∷ []) ∷ []) 1 10 ∷ [])
+    ∷ given 481 (testAndWrite [] (bytesAt 2147483647 (65 ∷ []) ∷ []) 1 10 ∷ [])
     ∷ given 563 (addLease 1 ∷ addLease 2 ∷ addLease 3 ∷ addLease 4 ∷ addLease 5 ∷ [])
     ∷ given 564 (addLease 1 ∷ addLease 2 ∷ addLease 3 ∷ addLease 4 ∷ addLease 5 ∷ [])
-    ∷ given 500 (write (put 0 (65 ∷ []) ∷ []) ∷ testAndWrite (check 0 1 1 (65 ∷ 66 ∷ []) ∷ []) [] 0 0 ∷ [])
+    ∷ given 500 (write (bytesAt 0 (65 ∷ []) ∷ []) ∷ testAndWrite (check 0 1 1 (65 ∷ 66 ∷ []) ∷ []) [] 0 0 ∷ [])
     ∷ given 500 (testAndWrite (check 0 4 3 [] ∷ []) [] 0 0 ∷ [])
-    ∷ given 472 (testAndWrite (check 0 1 3 (9 ∷ []) ∷ []) (put 0 (1 ∷ []) ∷ []) 0 0 ∷ [])
+    ∷ given 472 (testAndWrite (check 0 1 3 (9 ∷ []) ∷ []) (bytesAt 0 (1 ∷ []) ∷ []) 0 0 ∷ [])
     ∷ given 500 ((4 ∷ replicate 32 0) ∷ [])
     ∷ []
 

@@ -12,7 +12,7 @@ use lib.Seq.{drop-drop, take-take}
 use borrow.Author.Tests.{leb-true, ltb-true}
 use Rattle.octets.proofs.ListLaws.{both}
 use Rattle.shares.specs.Bounds.{Bound, inOrder, partOf}
-use Rattle.shares.specs.Facts.{Inside}
+use Rattle.shares.specs.Facts.{PartInside}
 
 -- The first boundary and those after it, as numbers; the last of them.
 unfoldable pub places : ℕ → List Bound → List ℕ
@@ -60,7 +60,7 @@ unfolding partOf
 part-is i bs s = rw add-one
 
 -- Parts of a slice, one after the other.
-module _ (bs s : List ℕ) (i : ℕ) (h : Inside bs (length s) i) where
+module _ (bs s : List ℕ) (i : ℕ) (h : PartInside bs (length s) i) where
   pub risen : (getD bs i 0 ≤ getD bs (suc i) 0) × (getD bs (suc i) 0 ≤ length s)
   risen = (rw (← add-one i) (h .rises), rw (← add-one i) (h .fits))
 

@@ -16,7 +16,7 @@ use Rattle.shares.specs.Header.{keyAt, endAt}
 use Rattle.shares.specs.Rows.{headRows, bodyRows, shareOutcome}
 use Rattle.shares.specs.Share.{boundsOf, refused, checkedOf, checkedContainer, sharePart, partAt}
 use Rattle.shares.specs.Share.{containerPart, containerPartAt}
-use Rattle.shares.specs.Facts.{Inside}
+use Rattle.shares.specs.Facts.{PartInside}
 use Rattle.shares.specs.Claims.{shareNumbers, containerNumbers, InTurn, Demand1Share, Demand1Container}
 use Rattle.shares.proofs.ShareLaws.{checked-number, checked-refused, checked-bounds, none-empty}
 use Rattle.shares.proofs.ShareLaws.{bounds-inside, first-bound, last-bound, bounds-moved, container-refused}
@@ -62,7 +62,7 @@ outcome-occurs s = first-among (headRows s ++ bodyRows s)
 
 -- ---- a share by itself
 module _ (s : List ℕ) (z : shareOutcome s ≡ 0) where
-  inside : (i : ℕ) → i < 6 → Inside (boundsOf s) (length s) i
+  inside : (i : ℕ) → i < 6 → PartInside (boundsOf s) (length s) i
   inside i h = bounds-inside s i (outcome-ordered s z) h
 
   part-then : (i : ℕ) (t : List ℕ) → i < 6 → t ≡ drop (getD (boundsOf s) (suc i) 0) s

@@ -9,7 +9,7 @@ use native.Mathlib.Omega.{arith}
 use lib.Dec.{eqb, leb}
 use borrow.Author.Tests.{leb-true, leb-false, eq-eqb, ne-eqb, lt-ltb, le-ltb, le-leb, lt-leb}
 use Rattle.octets.specs.Numbers.{numberAt}
-use Rattle.shares.specs.Nodes.{depthFrom, depth, power, entrySize, nodesFrom, nodesOk}
+use Rattle.shares.specs.Nodes.{depthFrom, depth, power, chainEntrySize, nodesFrom, nodesOk}
 use Rattle.shares.specs.Claims.{DepthIsLeast}
 use Rattle.octets.specs.Lists.{anyOf}
 
@@ -19,7 +19,7 @@ unfolding nodesFrom
 nodes-none zero p s h = refl
 nodes-none (suc n) p s h = absurd (not-suc-le-zero h)
 
-nodes-some : (n p : ℕ) (s : List ℕ) → 0 < n → nodesFrom n p s ≡ numberAt 2 p s ∷ nodesFrom (n - 1) (p + entrySize) s
+nodes-some : (n p : ℕ) (s : List ℕ) → 0 < n → nodesFrom n p s ≡ numberAt 2 p s ∷ nodesFrom (n - 1) (p + chainEntrySize) s
 unfolding nodesFrom
 nodes-some zero p s h = absurd (not-suc-le-zero h)
 nodes-some (suc n) p s h =
@@ -32,7 +32,7 @@ occurs-hit x n p s h e = rw (nodes-some n p s h, eq-eqb _ _ e)
 
 pub occurs-miss : (x n p : ℕ) (s : List ℕ) → 0 < n → (x ≡ numberAt 2 p s → ⊥)
     → anyOf (eqb x) (nodesFrom n p s)
-    ≡ anyOf (eqb x) (nodesFrom (n - 1) (p + entrySize) s)
+    ≡ anyOf (eqb x) (nodesFrom (n - 1) (p + chainEntrySize) s)
 unfolding anyOf
 occurs-miss x n p s h e = rw (nodes-some n p s h, ne-eqb _ _ e)
 
@@ -47,14 +47,14 @@ unfolding nodesOk
 nodes-high top x n p s h e k = rw (nodes-some n p s h, ← e, le-ltb _ _ k)
 
 pub nodes-again : (top x n p : ℕ) (s : List ℕ) → 0 < n → x ≡ numberAt 2 p s → x < top
-    → anyOf (eqb x) (nodesFrom (n - 1) (p + entrySize) s) ≡ true
+    → anyOf (eqb x) (nodesFrom (n - 1) (p + chainEntrySize) s) ≡ true
     → nodesOk top (nodesFrom n p s) ≡ false
 unfolding nodesOk
 nodes-again top x n p s h e k o = rw (nodes-some n p s h, ← e, lt-ltb _ _ k, o)
 
 pub nodes-more : (top x n p : ℕ) (s : List ℕ) → 0 < n → x ≡ numberAt 2 p s → x < top
-    → anyOf (eqb x) (nodesFrom (n - 1) (p + entrySize) s) ≡ false
-    → nodesOk top (nodesFrom n p s) ≡ nodesOk top (nodesFrom (n - 1) (p + entrySize) s)
+    → anyOf (eqb x) (nodesFrom (n - 1) (p + chainEntrySize) s) ≡ false
+    → nodesOk top (nodesFrom n p s) ≡ nodesOk top (nodesFrom (n - 1) (p + chainEntrySize) s)
 unfolding nodesOk
 nodes-more top x n p s h e k o = rw (nodes-some n p s h, ← e, lt-ltb _ _ k, o)
 

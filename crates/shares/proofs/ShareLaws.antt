@@ -16,7 +16,7 @@ use Rattle.shares.specs.Bounds.{partOf}
 use Rattle.shares.specs.Header.{keyAt}
 use Rattle.shares.specs.Rows.{offsets, ordered, shareOutcome}
 use Rattle.shares.specs.Share.{boundsOf, checkedOf, checkedContainer, refused, boundsAt, checkedAt}
-use Rattle.shares.specs.Facts.{Inside}
+use Rattle.shares.specs.Facts.{PartInside}
 use Rattle.shares.proofs.BoundLaws.{places, lastOf, in-order-parts}
 use Rattle.shares.proofs.RowLaws.{order-facts, outcome-ordered}
 use Rattle.container.specs.declared.data.Lent.{Lent}
@@ -102,14 +102,14 @@ pub last-bound : (s : List ℕ) → ordered s ≡ true → getD (boundsOf s) 6 0
 unfolding boundsOf
 last-bound s e = order-facts s e .whole
 
-pub bounds-inside : (s : List ℕ) (i : ℕ) → ordered s ≡ true → i < 6 → Inside (boundsOf s) (length s) i
+pub bounds-inside : (s : List ℕ) (i : ℕ) → ordered s ≡ true → i < 6 → PartInside (boundsOf s) (length s) i
 unfolding ordered boundsOf places lastOf
 bounds-inside s i e h =
     let o = both _ _ e in
     let p = in-order-parts keyAt (offsets s) s (o .0) (eqb-true _ _ (o .1)) i h in
     record { rises = rw add-one (p .0); fits = rw add-one (p .1) }
 
-none-inside : (m n i : ℕ) → i < 6 → Inside (refused m .bounds) n i
+none-inside : (m n i : ℕ) → i < 6 → PartInside (refused m .bounds) n i
 none-inside m n i h =
     let a = getD-replicate {A = ℕ} 7 i 0 0 (omega arith) in
     let b = getD-replicate {A = ℕ} 7 (i + 1) 0 0 (omega arith) in
@@ -134,36 +134,36 @@ unfolding boundsAt boundsOf
 bounds-moved base s i h = getD-moved base (boundsOf s) i h
 
 moved-inside : (base : ℕ) (s : List ℕ) (i : ℕ) → i < 6
-    → Inside (boundsOf s) (length s) i
-    → Inside (boundsAt base s) (base + length s) i
+    → PartInside (boundsOf s) (length s) i
+    → PartInside (boundsAt base s) (base + length s) i
 moved-inside base s i h p =
     let a = bounds-moved base s i (omega arith) in
     let b = bounds-moved base s (i + 1) (omega arith) in
     record { rises = omega (arith, a, b, p .rises); fits = omega (arith, b, p .fits) }
 
-checked-inside : (base : ℕ) (s : List ℕ) (i : ℕ) → i < 6 → Inside (checkedAt base s .bounds) (base + length s) i
+checked-inside : (base : ℕ) (s : List ℕ) (i : ℕ) → i < 6 → PartInside (checkedAt base s .bounds) (base + length s) i
 unfolding checkedAt
 checked-inside base s i h = go (eqb (shareOutcome s) 0) refl
   where
     go : (t : Bool) → eqb (shareOutcome s) 0 ≡ t
-        → Inside
+        → PartInside
         (cond t (record { number = 0; bounds = boundsAt base s }) (refused (shareOutcome s)) .bounds)
         (base + length s)
         i
     go true e = moved-inside base s i h (bounds-inside s i (outcome-ordered s (eqb-true _ _ e)) h)
     go false e = none-inside (shareOutcome s) (base + length s) i h
 
-within : (bs : List ℕ) (m n i : ℕ) → m ≤ n → Inside bs m i → Inside bs n i
+within : (bs : List ℕ) (m n i : ℕ) → m ≤ n → PartInside bs m i → PartInside bs n i
 within bs m n i h p = record { rises = p .rises; fits = omega arith }
 
-pub share-inside : (s : List ℕ) (i : ℕ) → i < 6 → Inside (checkedOf s .bounds) (length s) i
+pub share-inside : (s : List ℕ) (i : ℕ) → i < 6 → PartInside (checkedOf s .bounds) (length s) i
 unfolding checkedOf
 share-inside s i h = within _ (0 + length s) (length s) i (omega arith) (checked-inside 0 s i h)
 
-pub container-inside : (c : List ℕ) (i : ℕ) → i < 6 → Inside (checkedContainer c .bounds) (length c) i
+pub container-inside : (c : List ℕ) (i : ℕ) → i < 6 → PartInside (checkedContainer c .bounds) (length c) i
 container-inside c i h = go (eqb (lentOf c .number) 0) refl
   where
-    go : (t : Bool) → eqb (lentOf c .number) 0 ≡ t → Inside (checkedContainer c .bounds) (length c) i
+    go : (t : Bool) → eqb (lentOf c .number) 0 ≡ t → PartInside (checkedContainer c .bounds) (length c) i
     go true e =
         let l = lends c in
         rw (container-zero c (eqb-true _ _ e))

@@ -20,6 +20,6 @@ abbrev pub Fits64 : ℕ → Type 0
 Fits64 n = n < 18446744073709551616
 
 -- Part i of these boundaries lies inside n bytes.
-pub record Inside (bs : List ℕ) (n i : ℕ) : Type 0 where
+pub record PartInside (bs : List ℕ) (n i : ℕ) : Type 0 where
   pub rises : getD bs i 0 ≤ getD bs (i + 1) 0
   pub fits : getD bs (i + 1) 0 ≤ n

@@ -21,13 +21,13 @@ power zero = 1
 power (suc c) = 2 * power c
 
 -- An entry of the chain: a node number of 2 bytes, and its hash.
-abbrev pub entrySize : ℕ
-entrySize = 2 + hashSize
+abbrev pub chainEntrySize : ℕ
+chainEntrySize = 2 + hashSize
 
 -- The node numbers of n entries from p on.
 unfoldable pub nodesFrom : ℕ → ℕ → List ℕ → List ℕ
 nodesFrom zero p s = []
-nodesFrom (suc n) p s = numberAt 2 p s ∷ nodesFrom n (p + entrySize) s
+nodesFrom (suc n) p s = numberAt 2 p s ∷ nodesFrom n (p + chainEntrySize) s
 
 -- No node number repeats, none is `top` or more.
 unfoldable pub nodesOk : ℕ → List ℕ → Bool

@@ -8,7 +8,7 @@ use Rattle.octets.specs.Rows.{Row, row, firstRow}
 use Rattle.shares.specs.Bounds.{Bound, above, from, inOrder}
 use Rattle.shares.specs.Header.{hashSize, version, sequence, required, total, segmentSize, dataLength, keyAt}
 use Rattle.shares.specs.Header.{signatureAt, chainAt, treeAt, shareDataAt, privateKeyAt, endAt}
-use Rattle.shares.specs.Nodes.{depth, power, entrySize, nodesFrom, nodesOk}
+use Rattle.shares.specs.Nodes.{depth, power, chainEntrySize, nodesFrom, nodesOk}
 
 -- Row 24: the least multiple of k at or above n.
 unfoldable pub leastMultiple : ℕ → ℕ → ℕ
@@ -26,7 +26,7 @@ ordered s = inOrder keyAt (offsets s) && eqb (endAt s) (length s)
 -- Row 26: the chain has an entry for each level of the tree over the shares, with node numbers of that tree.
 unfoldable pub chainOk : List ℕ → Bool
 chainOk s =
-    eqb (treeAt s - chainAt s) (entrySize * depth (total s))
+    eqb (treeAt s - chainAt s) (chainEntrySize * depth (total s))
     && nodesOk (2 * power (depth (total s)) - 1) (nodesFrom (depth (total s)) (chainAt s) s)
 
 -- Row 27: the block tree is one hash; for data length 0, one or none.

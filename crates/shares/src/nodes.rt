@@ -5,11 +5,11 @@ ghost use mathlib.Core.Path.{_≡_};
 ghost use Prim.Native.Nat.{_+_, _*_, _≤_};
 ghost use lib.Dec.{eqb};
 ghost use lib.ListN.{length};
-ghost use Rattle.shares.specs.Nodes.{depth, power, entrySize, nodesFrom, nodesOk};
+ghost use Rattle.shares.specs.Nodes.{depth, power, chainEntrySize, nodesFrom, nodesOk};
 ghost use Rattle.octets.specs.Lists.{anyOf};
 
 // An entry of the chain: a node number of 2 bytes, and its hash.
-pub(crate) const ENTRY_SIZE: usize = 2 + HASH_SIZE;
+pub(crate) const CHAIN_ENTRY_SIZE: usize = 2 + HASH_SIZE;
 
 // The tree over the shares: its depth c, the least with 2^c at or above their number, and its 2^c leaves.
 pub(crate) struct Over {
@@ -32,7 +32,7 @@ pub(crate) fn tree_over(total: u8) -> Over
 
 // Whether x is among the n node numbers from p on.
 fn occurs(s: &[u8], x: u16, n: usize, p: usize) -> bool
-    requires { ⌜ p + entrySize * n ≤ length (now s) ⌝ }
+    requires { ⌜ p + chainEntrySize * n ≤ length (now s) ⌝ }
     ensures { λ r. ⌜ r ≡ anyOf (eqb x) (nodesFrom n p (now (s .entry))) ⌝ }
 {
     let mut left = n;
@@ -42,14 +42,14 @@ fn occurs(s: &[u8], x: u16, n: usize, p: usize) -> bool
             return true;
         }
         left -= 1;
-        at += ENTRY_SIZE;
+        at += CHAIN_ENTRY_SIZE;
     }
     false
 }
 
 // Whether of the n node numbers from p on each is below `top` and none comes again.
 pub(crate) fn nodes_ok(s: &[u8], top: usize, n: usize, p: usize) -> bool
-    requires { ⌜ p + entrySize * n ≤ length (now s) ⌝ }
+    requires { ⌜ p + chainEntrySize * n ≤ length (now s) ⌝ }
     ensures { λ r. ⌜ r ≡ nodesOk top (nodesFrom n p (now (s .entry))) ⌝ }
 {
     let mut left = n;
@@ -60,7 +60,7 @@ pub(crate) fn nodes_ok(s: &[u8], top: usize, n: usize, p: usize) -> bool
             return false;
         }
         left -= 1;
-        at += ENTRY_SIZE;
+        at += CHAIN_ENTRY_SIZE;
         if occurs(s, x, left, at) {
             return false;
         }

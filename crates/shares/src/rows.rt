@@ -67,7 +67,7 @@ fn chain_ok(s: &[u8]) -> bool
     let over = nodes::tree_over(header::total(s));
     let chain = header::chain_at(s) as usize;
     let size = header::tree_at(s) as usize - chain;
-    if size != nodes::ENTRY_SIZE * over.depth {
+    if size != nodes::CHAIN_ENTRY_SIZE * over.depth {
         return false;
     }
     nodes::nodes_ok(s, 2 * over.leaves - 1, over.depth, chain)

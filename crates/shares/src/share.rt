@@ -8,7 +8,7 @@ ghost use Rattle.container.specs.Data.{beyond};
 ghost use Rattle.shares.specs.Bounds.{partOf};
 ghost use Rattle.shares.specs.Share.{refused, boundsAt, checkedAt, checkedOf, sharePart, partAt};
 ghost use Rattle.shares.specs.Share.{checkedContainer, containerPart, containerPartAt};
-ghost use Rattle.shares.specs.Facts.{OrderedOffsets, Fits64, Inside};
+ghost use Rattle.shares.specs.Facts.{OrderedOffsets, Fits64, PartInside};
 
 // The outcome's number, and the boundaries of the six parts (all 0 on a refusal).
 #[repr(C)]
@@ -77,7 +77,7 @@ pub fn check_container(c: &[u8]) -> Checked
 
 // Part i, from boundary i to boundary i + 1.
 fn part_of(s: &[u8], bounds: [u64; 7], i: usize) -> &[u8]
-    requires { ⌜ (i < 6) × Inside bounds (length (now s)) i ⌝ }
+    requires { ⌜ (i < 6) × PartInside bounds (length (now s)) i ⌝ }
     ensures bytes { λ r. ⌜ now r ≡ partOf i bounds (now (s .entry)) ⌝ }
     ensures place { λ r. ⌜ r .ptr ≡ beyond ((s .entry) .ptr) (getD bounds i 0) ⌝ }
 {

@@ -28,7 +28,7 @@ use Rattle.format.specs.Parts.{partsOf, used, Parts, extras}
 use Rattle.replies.specs.Pieces.{piecesIn, measuredOf}
 use Rattle.writes.specs.Rewrite.{Final}
 use Rattle.rules.specs.Testing.{resolves, testPiece, holds, position}
-use Rattle.format.proofs.KnownLaws.{size-known, extras-known}
+use Rattle.format.proofs.KnownLaws.{data-framed, extras-framed}
 use Rattle.rules.proofs.Kept.{after-valid}
 use Rattle.rules.proofs.WriteLaws.{length-cutTo, length-writeAll}
 use Rattle.octets.specs.Strings.{same}
@@ -37,7 +37,6 @@ use Rattle.requests.specs.Cursors.{bodyOf}
 use Rattle.format.proofs.RoundTrip.{parts-valid}
 use Rattle.requests.proofs.CursorLaws.{position-below}
 use Rattle.writes.specs.Sizes.{reachedBy}
-use Rattle.rules.proofs.RequestLaws.{tests}
 
 -- ---- the size that the writes reach
 grow-bound : (n at k : ℕ) → grow n at k ≤ max n (at + k)
@@ -99,7 +98,7 @@ module _ {c q d : List ℕ} {f : Frame} {t : Parted} {m : Measured} {x : Reached
 
   final-is : length (after (partsOf c) asks .bytes) ≡ s
   unfolding finalSize partsOf
-  final-is = after-size (partsOf c) q t ∙ rw (size-known (F .known)) (sym (F .final ∙ rw (F .reached)))
+  final-is = after-size (partsOf c) q t ∙ rw (data-framed (F .known)) (sym (F .final ∙ rw (F .reached)))
 
   pieces-are : piecesIn (t .tests) q d ≡ map (testPiece (dataOf c)) (testsIn t q)
   pieces-are =
@@ -113,13 +112,13 @@ module _ {c q d : List ℕ} {f : Frame} {t : Parted} {m : Measured} {x : Reached
   resolves-is : (every (λ u. resolves (u .offset) (length (dataOf c))) (testsIn t q)
       && writesResolve (writesIn t q) (length (dataOf c))) ≡ (m .resolves && x .resolves)
   resolves-is =
-      rw (size-known (F .known), F .measured, F .reached, F .bytes, F .parted .tests-stride, size-known (F .known))
+      rw (data-framed (F .known), F .measured, F .reached, F .bytes, F .parted .tests-stride, data-framed (F .known))
       (ap (λ (b : Bool). b && writesResolve (writesIn t q) (f .size))
       (test-resolve (t .tests .count) (t .tests .first .at) (t .specimens .at) q (f .size)))
 
   used-after : used (after (partsOf c) asks) ≡ usedLength s (f .extras)
   unfolding partsOf
-  used-after = after-used (partsOf c) q t ∙ rw (final-is, extras-known (F .known))
+  used-after = after-used (partsOf c) q t ∙ rw (final-is, extras-framed (F .known))
 
   pub final-bound : (s ≤ x .size) × (x .size ≤ f .size + 2147483648 + length q)
   final-bound = (
@@ -192,7 +191,7 @@ module _ {c q : List ℕ} {f : Frame} {t : Parted} {v : Verdict} (D : Decided c 
 
   used-decided : used (after (partsOf c) (writeIn t q)) ≡ usedLength (v .size) (f .extras)
   unfolding partsOf
-  used-decided = after-used (partsOf c) q t ∙ rw (extras-known (D .known), ← size-decided)
+  used-decided = after-used (partsOf c) q t ∙ rw (extras-framed (D .known), ← size-decided)
 
   fits-decided : v .number ≡ 0 → used (after (partsOf c) (writeIn t q)) ≤ length c
   unfolding after withBytes partsOf
@@ -204,6 +203,6 @@ module _ {c q : List ℕ} {f : Frame} {t : Parted} {v : Verdict} (D : Decided c 
   pub room : v .number ≡ 0 → Final q t f (v .size) (length c)
   unfolding partsOf
   room e = record {
-    size = size-decided ∙ after-size (partsOf c) q t ∙ rw (size-known (D .known));
+    size = size-decided ∙ after-size (partsOf c) q t ∙ rw (data-framed (D .known));
     fits = rw used-decided at (fits-decided e);
   }

@@ -13,7 +13,7 @@ use Rattle.octets.specs.Facts.{Octets}
 use Rattle.octets.specs.Moves.{put}
 use Rattle.octets.proofs.ListLaws.{and-assoc, and-true}
 use Rattle.rules.specs.Requests.{Write, entrySize, entryOffset, entryCount, sumFrom, writesFrom}
-use Rattle.rules.specs.Testing.{resolves, position}
+use Rattle.rules.specs.Testing.{resolves}
 use Rattle.rules.specs.Writing.{padTo, writeAt, grow, placed, writesResolve, writeAll}
 use Rattle.rules.specs.Sizes.{sizeAll, clip}
 use Rattle.rules.proofs.WriteLaws.{take-min}

@@ -12,13 +12,13 @@ use Rattle.octets.specs.Facts.{Octets}
 use Rattle.octets.proofs.NumberLaws.{length-digits}
 use Rattle.format.specs.Layout.{magic, sizeWidth, countSize, recordSize, fixedPlaces, sizeAt, leasesAt, dataAt}
 use Rattle.format.specs.Layout.{countAt, dataOf}
-use Rattle.format.specs.Parts.{Parts, extras, used, partsOf, frontOf, headOf, tailOf, encode}
+use Rattle.format.specs.Parts.{Parts, used, partsOf, frontOf, headOf, tailOf, encode}
 use Rattle.format.specs.View.{tailSize, Laid}
 use Rattle.format.specs.Claims.{Valid}
 use Rattle.format.specs.Judging.{Known}
 use Rattle.format.proofs.WellFormed.{used-is}
 use Rattle.format.proofs.RoundTrip.{parts-valid}
-use Rattle.format.proofs.KnownLaws.{extras-known}
+use Rattle.format.proofs.KnownLaws.{extras-framed}
 use Rattle.format.proofs.ViewLaws.{formed-laid, laid-encoded}
 use Rattle.rules.specs.Requests.{Write}
 use Rattle.rules.specs.Writing.{writeAll, placed, rewritten}
@@ -57,7 +57,7 @@ used-written : (c d : List ℕ) (f : Frame) → Known c f
     → used (withBytes (partsOf c) d) ≡ dataAt + length d + tailSize (f .extras)
 unfolding used withBytes partsOf
 used-written c d f k =
-    rw (extras-known k) (omega (arith, used-is (length d) (f .extras)))
+    rw (extras-framed k) (omega (arith, used-is (length d) (f .extras)))
 
 -- ---- the rewriting
 -- Resized, then the clipped writes: that is the writes in order and then the cut.

@@ -12,7 +12,7 @@ ghost use Rattle.rules.specs.Sizes.{clip};
 ghost use Rattle.rules.specs.Outcomes.{after};
 ghost use Rattle.requests.specs.Forms.{PartedIn, writesIn, writeIn};
 ghost use Rattle.writes.specs.Rewrite.{Turns, kept, fieldsOf, withSize, Final};
-ghost use Rattle.rules.specs.Sizes as writing;
+ghost use Rattle.rules.specs.Sizes as sizes;
 use crate::overlay::overlay_all;
 use format::layout::DATA_AT;
 use format::layout::Frame;
@@ -46,7 +46,7 @@ fn shift_down(p: &mut [u8], t: usize)
 // The data grows from s to f bytes: the tail goes up, zeros fill the gap.
 fn grow_to(c: &mut [u8], s: usize, f: usize, k: usize)
     requires { ⌜ (s ≤ f) × (dataAt + f + k ≤ length (now c)) ⌝ }
-    ensures { λ _. ⌜ Turns s f k kept (writing.resize f) (now (c .entry)) (now (c .exit)) ⌝ }
+    ensures { λ _. ⌜ Turns s f k kept (sizes.resize f) (now (c .entry)) (now (c .exit)) ⌝ }
 {
     let a = DATA_AT + s;
     let e = DATA_AT + f + k;
@@ -56,7 +56,7 @@ fn grow_to(c: &mut [u8], s: usize, f: usize, k: usize)
 // The data is cut from s to f bytes: the tail goes down, zeros fill what it leaves.
 fn shrink_to(c: &mut [u8], s: usize, f: usize, k: usize)
     requires { ⌜ (f ≤ s) × (dataAt + s + k ≤ length (now c)) ⌝ }
-    ensures { λ _. ⌜ Turns s f k kept (writing.resize f) (now (c .entry)) (now (c .exit)) ⌝ }
+    ensures { λ _. ⌜ Turns s f k kept (sizes.resize f) (now (c .entry)) (now (c .exit)) ⌝ }
 {
     let a = DATA_AT + f;
     let e = DATA_AT + s + k;
@@ -66,7 +66,7 @@ fn shrink_to(c: &mut [u8], s: usize, f: usize, k: usize)
 // The data is cut, or filled with zeros, to f bytes; where it has them already nothing moves.
 fn resize(c: &mut [u8], s: usize, f: usize, k: usize)
     requires { ⌜ (dataAt + s + k ≤ length (now c)) × (dataAt + f + k ≤ length (now c)) ⌝ }
-    ensures { λ _. ⌜ Turns s f k kept (writing.resize f) (now (c .entry)) (now (c .exit)) ⌝ }
+    ensures { λ _. ⌜ Turns s f k kept (sizes.resize f) (now (c .entry)) (now (c .exit)) ⌝ }
 {
     if s == f {
         return;

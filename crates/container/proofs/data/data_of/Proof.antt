@@ -9,7 +9,7 @@ find-data-requires : tie.Need-find-data-requires
 find-data-requires c κs = search needs
 
 sub-result : tie.Need-sub-result
-sub-result c = lent-inside _ _ (c .find-data .ensures) .0
+sub-result c = let h = lent-inside _ _ (c .find-data .ensures) in omega arith
 
 part-result-start : tie.Need-part-result-start
 part-result-start c = let h = lent-inside _ _ (c .find-data .ensures) in omega arith

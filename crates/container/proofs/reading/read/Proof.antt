@@ -1,7 +1,7 @@
 -- Each way out has met the tests of the rows above its own.
 use native.Mathlib.Omega.{arith}
 use borrow.Author.Tests.{not-true, not-false}
-use Rattle.format.proofs.KnownLaws.{lent, known-room, lent-is, lent-small}
+use Rattle.format.proofs.KnownLaws.{lent, known-room, data-lent, lent-small}
 use Rattle.container.proofs.ReadLaws.{Asked, reply-length, read-unresolved, read-exceeding, read-no-space}
 use Rattle.container.proofs.ReadLaws.{read-done}
 use borrow.Author.Needs.{needs}
@@ -14,7 +14,7 @@ asked : (c : tie.After-measure) → let a = c .before .before .before .before .b
 asked c = record {
   known = c .before .before .before .before .before .before .pre .0;
   request = c .before .before .before .before .before .before .pre .1;
-  bytes = lent-is (c .before .before .before .before .before .before .pre .0) (c .before .before .data-end .ensures);
+  bytes = data-lent (c .before .before .before .before .before .before .pre .0) (c .before .before .data-end .ensures);
   measured = c .measure .ensures;
 }
 

@@ -5,7 +5,7 @@ use mathlib.Core.Bool.{true}
 use native.Mathlib.Omega.{arith}
 use borrow.Author.Tests.{not-true, not-false}
 use Rattle.rules.specs.Outcomes.{replies}
-use Rattle.format.proofs.KnownLaws.{known-room, lent-is, lent-small}
+use Rattle.format.proofs.KnownLaws.{known-room, data-lent, lent-small}
 use Rattle.container.proofs.WriteRequestLaws.{Writing, decided, differs, other, accepted, reply-fits, failed}
 use Rattle.container.proofs.WriteRequestLaws.{done}
 use borrow.Author.Needs.{needs}
@@ -80,7 +80,7 @@ write-reply-requires c κs =
     let e = c .before .before .before .data-end .ensures in (
       s .pre .1 .parted .tests,
       lent-small (s .pre .0) e,
-      reply-fits (writing (c .before .before .before .before .before .before .before)) (lent-is (s .pre .0) e)
+      reply-fits (writing (c .before .before .before .before .before .before .before)) (data-lent (s .pre .0) e)
           (replying (c .before .before .before .before)),
     )
 
@@ -96,7 +96,7 @@ same-length-4 c = search needs
 returns-3 : tie.Need-returns-3
 returns-3 c =
     failed (writing (c .before .before .before .before .before .before .before .before .before .before .before .before))
-    (lent-is (c .before .before .before .before .before .before .before .before .before .before .before .before
+    (data-lent (c .before .before .before .before .before .before .before .before .before .before .before .before
     .before .before .before .before .before .pre .0)
     (c .before .before .before .before .before .before .before .before .data-end .ensures)) (c .before .if3 .taken)
     (c .answer2 .ensures) (c .before .before .before .before .write-reply .ensures)
@@ -122,7 +122,7 @@ returns-4 c =
     done (writing
     (c .before .before .before .before .before .before .before .before .before .before .before .before .before
     .before .before .before))
-    (lent-is (c .before .before .before .before .before .before .before .before .before .before .before .before
+    (data-lent (c .before .before .before .before .before .before .before .before .before .before .before .before
     .before .before .before .before .before .before .before .before .before .pre .0)
     (c .before .before .before .before .before .before .before .before .before .before .before .before .data-end
     .ensures)) (accepting (c .before .before .before .before .before)) (c .answer3 .ensures)

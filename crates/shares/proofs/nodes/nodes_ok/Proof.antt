@@ -3,14 +3,14 @@ use mathlib.Core.Path.{_≡_, refl, sym, _∙_}
 use Prim.Native.Nat.{_≤_, _+_, _*_}
 use native.Mathlib.Omega.{arith}
 use lib.ListN.{length}
-use Rattle.shares.specs.Nodes.{entrySize, nodesFrom, nodesOk}
+use Rattle.shares.specs.Nodes.{chainEntrySize, nodesFrom, nodesOk}
 use Rattle.shares.proofs.NodeLaws.{nodes-high, nodes-again, nodes-more, nodes-end}
 use Rattle.shares.proofs.nodes.nodes_ok.Statement.{statement}
 use Rattle.shares.proofs.nodes.nodes_ok.Tie as tie
 
 abbrev Inv-loop : tie.InvT-loop
 Inv-loop s top n p left₀ at₀ left at =
-    (at + entrySize * left ≤ length s) × (nodesOk top (nodesFrom n p s) ≡ nodesOk top (nodesFrom left at s))
+    (at + chainEntrySize * left ≤ length s) × (nodesOk top (nodesFrom n p s) ≡ nodesOk top (nodesFrom left at s))
 
 abbrev μ-loop : tie.MeasureT-loop
 μ-loop s top n p left₀ at₀ left at = left

@@ -4,7 +4,7 @@ use mathlib.Core.Path.{_≡_, refl, sym, _∙_}
 use Prim.Native.Nat.{_≤_, _+_, _*_}
 use native.Mathlib.Omega.{arith}
 use lib.ListN.{length}
-use Rattle.shares.specs.Nodes.{entrySize, nodesFrom}
+use Rattle.shares.specs.Nodes.{chainEntrySize, nodesFrom}
 use Rattle.shares.proofs.NodeLaws.{occurs-hit, occurs-miss, occurs-none}
 use Rattle.octets.specs.Lists.{anyOf}
 use Rattle.shares.proofs.nodes.occurs.Statement.{statement}
@@ -12,7 +12,7 @@ use Rattle.shares.proofs.nodes.occurs.Tie as tie
 
 abbrev Inv-loop : tie.InvT-loop
 Inv-loop s x n p left₀ at₀ left at =
-    (at + entrySize * left ≤ length s) × (anyOf (eqb x) (nodesFrom n p s) ≡ anyOf (eqb x) (nodesFrom left at s))
+    (at + chainEntrySize * left ≤ length s) × (anyOf (eqb x) (nodesFrom n p s) ≡ anyOf (eqb x) (nodesFrom left at s))
 
 abbrev μ-loop : tie.MeasureT-loop
 μ-loop s x n p left₀ at₀ left at = left

@@ -2,7 +2,7 @@
 use mathlib.Core.Path.{_≡_}
 use native.Mathlib.Omega.{arith}
 use Rattle.octets.specs.Rows.{firstRow}
-use Rattle.format.proofs.KnownLaws.{lent, known-room, lent-is, lent-small}
+use Rattle.format.proofs.KnownLaws.{lent, known-room, data-lent, lent-small}
 use Rattle.verdicts.proofs.VerdictLaws.{Found, final-bound, admits, fits, admit-verdict, find-verdict}
 use Rattle.verdicts.proofs.VerdictLaws.{fit-verdict}
 use borrow.Author.Needs.{needs}
@@ -15,7 +15,7 @@ found : (c : tie.After-cut-size) → let a = c .before .before .before .before .
 found c = record {
   known = c .before .before .before .before .before .before .before .pre .0;
   parted = c .before .before .before .before .before .before .before .pre .1;
-  bytes = lent-is (c .before .before .before .before .before .before .before .pre .0)
+  bytes = data-lent (c .before .before .before .before .before .before .before .pre .0)
       (c .before .before .before .before .data-end .ensures);
   measured = c .before .before .measure .ensures;
   reached = c .before .reach .ensures;
