@@ -25,7 +25,7 @@ use Rattle.format.proofs.RoundTrip.{digits-at, field-then, parts-valid, places-
 use Rattle.format.proofs.RoundTrip.{encode-parts}
 use Rattle.rules.specs.Leasing.{later, withLast, trim, dropTail, extended}
 use Rattle.rules.specs.Outcomes.{withLeases}
-use Rattle.octets.proofs.MoveLaws.{put-over, put-right, put-inside, zeros-split}
+use Rattle.octets.proofs.MoveLaws.{put-over, put-right, put-within, zeros-split}
 use Rattle.format.specs.View.{tailSize, Laid, placeAt}
 use Rattle.format.proofs.ViewLaws.{length-front, laid-encoded, formed-laid, put-head, put-behind, put-tail, tail-less}
 use Rattle.format.specs.Judging.{Known}
@@ -377,7 +377,7 @@ module _ (c : List ℕ) (f : Frame) (k : Known c f) (o : Octets c) where
     unfolding extended
     put-expiry l =
         let ld : length (digits 4 x) ≡ 4 = length-digits 4 x in
-        put-inside p expiryAt recordSize (digits 4 x) c (omega arith) ends
+        put-within p expiryAt recordSize (digits 4 x) c (omega arith) ends
         ∙ ap₂ (λ (a : ℕ) (y : List ℕ). put a y c) q (later-put x r (omega (arith, expiry)))
         ∙ put-place i (later x r) h (length-later x r lr) ∙ rw is-lease
 
