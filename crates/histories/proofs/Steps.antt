@@ -1,25 +1,24 @@
 -- One call over parts: what it hears and leaves, its two sides, and that bytes follow parts. Assumes nothing.
 use mathlib.Core.Path.{_≡_, refl, sym, ap, _∙_}
-use mathlib.Core.Bool.{Bool, true, false, cond, not, _&&_, true≢false, false≢true}
+use mathlib.Core.Bool.{Bool, true, false, cond, _&&_, true≢false}
 use mathlib.Core.List.{[]}
-use mathlib.Core.Option.{Option, none, some}
 use Prim.Native.Nat.{ℕ}
 use lib.ListN.{length}
 use lib.Dec.{eqb, leb}
-use borrow.Author.Tests.{not-false, eqb-true}
+use borrow.Author.Tests.{not-true, not-false}
 use Rattle.octets.specs.Moves.{put}
 use Rattle.format.specs.Parts.{Parts, encode}
 use Rattle.format.specs.Claims.{Valid}
 use Rattle.format.proofs.RoundTrip.{parts-encode}
-use Rattle.rules.specs.Requests.{Request, testWrite, add, renew, cancel, read, requestOf, kindOf, testWriteOf}
+use Rattle.rules.specs.Requests.{requestOf, kindOf, testWriteOf}
 use Rattle.rules.specs.Outcomes.{withBytes, withLeases, after, afterOf, rows, requestRows, replies, counted}
 use Rattle.rules.specs.Outcomes.{answerTo, replyTo, replyBytes, answered, containerAfter, replyAfter, admitRows}
 use Rattle.rules.specs.Outcomes.{findRows}
 use Rattle.octets.specs.Rows.{firstRow}
-use Rattle.rules.proofs.Kept.{after-valid}
-use Rattle.rules.proofs.RequestLaws.{Kinds, broken, tests, adds, renews, cancels, reads, kinds, ProperOption}
+use Rattle.rules.proofs.RequestLaws.{Kinds, broken, tests, adds, renews, cancels, reads, kinds}
 use Rattle.rules.proofs.RequestLaws.{request-proper}
-use Rattle.rules.proofs.OutcomeLaws.{outcome-encode, answer-number, earlyRows, early, outcome-early}
+use Rattle.rules.proofs.OutcomeLaws.{outcome-encode, answer-number, room-after, valid-after, earlyRows, early}
+use Rattle.rules.proofs.OutcomeLaws.{outcome-early}
 use Rattle.histories.specs.Runs.{Call, Heard, hears, leaves, ruleOutcome, ruleHears, ruleLeaves, isLease}
 use Rattle.histories.specs.Runs.{isData, noRoom}
 use Rattle.histories.proofs.Follows.{Follows}
@@ -67,13 +66,6 @@ leaseSide p = record { room = 0; node = p .node; enabler = []; bytes = []; lease
 pub lease-kind : (x : Call) (k : ℕ) → kindOf (x .request) ≡ k → isLease x ≡ (leb 2 k && leb k 4)
 unfolding isLease
 lease-kind x k e = rw e
-
-not-true : {b : Bool} → not b ≡ true → b ≡ false
-not-true {b} = go b
-  where
-    go : (b : Bool) → not b ≡ true → b ≡ false
-    go true e = absurd (false≢true e)
-    go false e = refl
 
 never : {A : Type 0} {b : Bool} → b ≡ true → b ≡ false → A
 never e f = absurd (true≢false (sym e ∙ f))
@@ -149,15 +141,6 @@ stays-left side n x p e = side-choice side (eqb n 0) (afterOf p (requestOf (x .r
     ∙ rw e (same-choice (eqb n 0) (side p))
 
 -- no call changes the buffer's length
-room-after : (p : Parts) (r : Option Request) → afterOf p r .room ≡ p .room
-unfolding afterOf maybe after withBytes withLeases
-room-after p none = refl
-room-after p (some (testWrite k ts ws cut)) = refl
-room-after p (some (add r)) = refl
-room-after p (some (renew t x)) = refl
-room-after p (some (cancel t)) = refl
-room-after p (some (read rs)) = refl
-
 pub room-stays : (x : Call) (p : Parts) → ruleLeaves x p .room ≡ p .room
 unfolding ruleLeaves
 room-stays x p = go (eqb (ruleOutcome x p) 0)
@@ -171,9 +154,9 @@ pub data-calls : Sided isData noRoom ruleHears ruleLeaves dataSide (λ x p. hear
     (λ x p. leftBy (earlyOf x p) x p)
 unfolding isData
 data-calls = record {
-  answer = λ x p m r. hears-roomy x p r ∙ data-alone-by x p (not-true m) (kinds (x .request)) .heard;
+  answer = λ x p m r. hears-roomy x p r ∙ data-alone-by x p (not-true (isLease x) m) (kinds (x .request)) .heard;
   moves = λ x p m r. ap dataSide (leaves-roomy x p r)
-      ∙ alone-left dataSide x p (data-alone-by x p (not-true m) (kinds (x .request)));
+      ∙ alone-left dataSide x p (data-alone-by x p (not-true (isLease x) m) (kinds (x .request)));
   stays = λ x p m r. ap dataSide (leaves-roomy x p r)
       ∙ stays-left dataSide (earlyOf x p) x p (data-stays-by x p (not-false (isLease x) m) (kinds (x .request)));
 }
@@ -202,12 +185,6 @@ leaves-encode x p v = rw (outcome-encode p (x .request) (length (x .space)) v, p
         ≡ encode (cond b (afterOf p (requestOf (x .request))) p)
     go true = refl
     go false = refl
-
-pub valid-after : (p : Parts) (r : Option Request) (n : ℕ) → Valid p → ProperOption r
-    → eqb (firstRow (requestRows p r n)) 0 ≡ true → Valid (afterOf p r)
-unfolding requestRows afterOf maybe
-valid-after p none n v q e = v
-valid-after p (some r) n v q e = after-valid p r n v q (eqb-true _ _ e)
 
 pub valid-left : (x : Call) (p : Parts) → Valid p → Valid (ruleLeaves x p)
 unfolding ruleLeaves ruleOutcome

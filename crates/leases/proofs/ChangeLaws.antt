@@ -20,7 +20,7 @@ use Rattle.format.specs.Layout.{dataOf, usedLength, countAt, extrasAt, records,
 use Rattle.format.specs.Container.{held, recordOk}
 use Rattle.format.specs.Claims.{Place, Valid}
 use Rattle.format.specs.Parts.{extras, Parts, frontOf, headOf, tailOf, partsOf, used, noLease}
-use Rattle.octets.proofs.ListLaws.{each-take, each-drop}
+use Rattle.octets.proofs.ListLaws.{each-take, each-drop, part-part}
 use Rattle.format.proofs.RoundTrip.{digits-at, field-then, parts-valid, places-sizes, no-lease, records-back}
 use Rattle.format.proofs.RoundTrip.{encode-parts}
 use Rattle.rules.specs.Leasing.{later, withLast, trim, dropTail, extended}
@@ -32,7 +32,6 @@ use Rattle.format.specs.Judging.{Known}
 use Rattle.format.proofs.WellFormed.{length-leases, used-is, count-is}
 use Rattle.leases.specs.Changes.{leasedAs}
 use Rattle.leases.proofs.PlaceLaws.{known-places, by-place, fixed-at, extra-at, lease-at, place-inside}
-use Rattle.leases.proofs.PlaceLaws.{part-part}
 use Rattle.format.proofs.KnownLaws.{data-framed, extras-framed}
 use Rattle.rules.proofs.LeaseLaws.{each-set, length-trim, length-later}
 use Rattle.format.specs.declared.layout.Frame.{Frame}

@@ -9,7 +9,7 @@ use native.Mathlib.Nat.{zero-add, add-assoc}
 use native.Mathlib.Omega.{arith}
 use lib.Dec.{ltb}
 use lib.ListN.{length, take, drop, getD, List·getD-append}
-use lib.Seq.{take-nil, take-take, drop-drop, getD-append-add}
+use lib.Seq.{getD-append-add}
 use borrow.Author.Tests.{ltb-true, ltb-false, lt-ltb, le-ltb}
 use Rattle.format.specs.declared.layout.Frame.{Frame}
 use borrow.Author.Count.{below-more}
@@ -82,19 +82,6 @@ pub inside : (c : List ℕ) (f : Frame) → Known c f → (i : ℕ) → i < fixe
     (p : ℕ) → p ≡ placeAt (f .size) i → Inside c f p
 inside c f k i h p q =
     record { ends = rw q (place-inside c f k i h); sized = known-sized c f k; most = known-most c f k }
-
--- ---- a field of a place
-drop-take : (f n : ℕ) (l : List ℕ) → drop f (take (f + n) l) ≡ take n (drop f l)
-drop-take zero n l = let e : 0 + n ≡ n = omega arith in rw e
-drop-take (suc f) n [] = let e : suc f + n ≡ suc (f + n) = omega arith in rw e (sym (take-nil n))
-drop-take (suc f) n (x ∷ l) = let e : suc f + n ≡ suc (f + n) = omega arith in rw e (drop-take f n l)
-
--- m bytes at f of the n bytes at p
-pub part-part : (p n f m : ℕ) (c : List ℕ) → f + m ≤ n → take m (drop f (take n (drop p c))) ≡ take m (drop (p + f) c)
-part-part p n f m c h =
-    let e : n ≡ f + (n - f) = omega arith in
-    ap (λ (j : ℕ). take m (drop f (take j (drop p c)))) e
-    ∙ rw (drop-take f (n - f) (drop p c), take-take m (n - f) (drop f (drop p c)) (omega arith), drop-drop f p c)
 
 -- ---- the first place that passes a test
 module _ (test : List ℕ → Bool) where

@@ -1,10 +1,12 @@
--- Tests in a row, tests over lists, and what holds of each element. Assumes nothing.
-use mathlib.Core.Path.{_≡_, refl}
-use mathlib.Core.Bool.{Bool, true, false, _&&_, false≢true, true≢false}
+-- Tests in a row, tests over lists, what holds of each element, and parts of lists. Assumes nothing.
+use mathlib.Core.Path.{_≡_, refl, sym, ap, _∙_}
+use mathlib.Core.Bool.{Bool, true, false, cond, _&&_, false≢true, true≢false}
 use mathlib.Core.List.{List, [], _∷_, _++_}
 use mathlib.Core.Option.{Option, none, some}
-use Prim.Native.Nat.{ℕ, zero, suc}
+use Prim.Native.Nat.{ℕ, zero, suc, _+_, _-_, _≤_}
+use native.Mathlib.Omega.{arith}
 use lib.ListN.{take, drop}
+use lib.Seq.{take-nil, take-take, drop-drop}
 use Rattle.octets.specs.Lists.{every, isSome, orElse}
 use Rattle.octets.specs.Facts.{Each}
 use Rattle.octets.specs.Last.{newer, lastSaid}
@@ -29,6 +31,15 @@ and-false false = refl
 pub and-true : (b : Bool) → (b && true) ≡ b
 and-true true = refl
 and-true false = refl
+
+-- the same by `cond`, which the checker keeps apart
+pub cond-false : (a b : Bool) → cond a b false ≡ (a && b)
+cond-false true b = refl
+cond-false false b = refl
+
+pub cond-true-false : (b : Bool) → cond b true false ≡ b
+cond-true-false true = refl
+cond-true-false false = refl
 
 -- ---- each element
 module _ {A : Type 0} (P : A → Type 0) where
@@ -60,6 +71,19 @@ module _ {A : Type 0} (test : A → Bool) where
   unfolding every
   each-every [] e = refl
   each-every (x ∷ xs) e = rw (e .0) (each-every xs (e .1))
+
+-- ---- parts
+pub drop-take : (f n : ℕ) (l : List ℕ) → drop f (take (f + n) l) ≡ take n (drop f l)
+drop-take zero n l = let e : 0 + n ≡ n = omega arith in rw e
+drop-take (suc f) n [] = let e : suc f + n ≡ suc (f + n) = omega arith in rw e (sym (take-nil n))
+drop-take (suc f) n (x ∷ l) = let e : suc f + n ≡ suc (f + n) = omega arith in rw e (drop-take f n l)
+
+-- m elements at f of the n elements at p
+pub part-part : (p n f m : ℕ) (c : List ℕ) → f + m ≤ n → take m (drop f (take n (drop p c))) ≡ take m (drop (p + f) c)
+part-part p n f m c h =
+    let e : n ≡ f + (n - f) = omega arith in
+    ap (λ (j : ℕ). take m (drop f (take j (drop p c)))) e
+    ∙ rw (drop-take f (n - f) (drop p c), take-take m (n - f) (drop f (drop p c)) (omega arith), drop-drop f p c)
 
 -- ---- what may be missing
 pub is-none : {A : Type 0} (o : Option A) → isSome o ≡ false → o ≡ none

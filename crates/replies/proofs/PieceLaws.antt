@@ -14,7 +14,7 @@ use Rattle.octets.specs.Moves.{put}
 use Rattle.octets.specs.Numbers.{digits}
 use Rattle.octets.specs.Strings.{order, join}
 use Rattle.octets.specs.Facts.{Octets}
-use Rattle.octets.proofs.ListLaws.{and-assoc, and-true}
+use Rattle.octets.proofs.ListLaws.{and-assoc, and-true, cond-true-false}
 use Rattle.octets.proofs.MoveLaws.{put-put, put-end, put-apart, put-length}
 use Rattle.octets.proofs.NumberLaws.{length-digits}
 use Rattle.format.specs.Layout.{limit}
@@ -208,10 +208,6 @@ either-assoc : (a b c : Bool) → cond (cond a true b) true c ≡ cond a true (c
 either-assoc true b c = refl
 either-assoc false b c = refl
 
-either-false : (b : Bool) → cond b true false ≡ b
-either-false true = refl
-either-false false = refl
-
 -- What is left of the table t, with what has been measured so far.
 pub record Measuring (t : Table) (q d : List ℕ) (m : Measured) (at left : ℕ) : Type 0 where
   pub reaches : at + t .stride * left ≤ length q
@@ -273,7 +269,7 @@ module _ {t : Table} {q d : List ℕ} {m : Measured} {at left : ℕ} (M : Measur
       sym (and-true (m .resolves))
       ∙ ap (λ (k : Bool). m .resolves && k) (sym (resolve-end (t .stride) left at q d h)) ∙ M .resolved in
       let b : m .exceeds ≡ exceedFrom (t .stride) (t .count) (t .first .at) q (length d) =
-      sym (either-false (m .exceeds))
+      sym (cond-true-false (m .exceeds))
       ∙ ap (cond (m .exceeds) true) (sym (exceed-end (t .stride) left at q d h)) ∙ M .exceeded in
       let e : length (replyOf (piecesFrom (t .stride) left at q d)) ≡ 0 =
       ap (λ (ps : List (List ℕ)). length (replyOf ps)) (pieces-end (t .stride) left at q d h) ∙ reply-none in

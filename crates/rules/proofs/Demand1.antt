@@ -7,20 +7,20 @@ use Prim.Native.Nat.{ℕ, _≤_}
 use native.Mathlib.Omega.{arith}
 use lib.ListN.{length, drop}
 use lib.Dec.{eqb, leb}
-use borrow.Author.Tests.{not-false, eqb-true, eqb-false, leb-true, ne-eqb}
+use borrow.Author.Tests.{not-false, eqb-true, eqb-false, eq-eqb, leb-true, ne-eqb}
 use Rattle.octets.specs.Moves.{put}
 use Rattle.octets.proofs.MoveLaws.{put-length}
 use Rattle.format.specs.Layout.{least, limit, nodeOf, dataOf, leasesOf, nodeSize, secretSize}
 use Rattle.format.specs.Container.{lengthAllowed, wellFormed}
-use Rattle.format.specs.Parts.{Parts, partsOf, encode, fresh}
+use Rattle.format.specs.Parts.{partsOf, encode, fresh}
 use Rattle.format.specs.Claims.{Valid}
 use Rattle.octets.proofs.ListLaws.{both}
 use Rattle.format.proofs.RoundTrip.{parts-valid, encode-formed, length-encode, leases-encode, fresh-valid}
-use Rattle.rules.specs.Requests.{Test, Read, Write, Request, testWrite, add, renew, cancel, read, kindOf}
+use Rattle.rules.specs.Requests.{Test, Read, Write, Request, testWrite, read, kindOf}
 use Rattle.rules.specs.Requests.{requestOf}
 use Rattle.rules.specs.Testing.{testPiece, readPiece, replyOf}
 use Rattle.rules.specs.Leasing.{present}
-use Rattle.rules.specs.Outcomes.{withBytes, withLeases, after, afterOf, requestRows, replyTo, replyBytes}
+use Rattle.rules.specs.Outcomes.{afterOf, requestRows, replyTo, replyBytes}
 use Rattle.rules.specs.Outcomes.{replies, counted, outcome, noNode, answered, containerAfter, replyAfter}
 use Rattle.rules.specs.Outcomes.{createOutcome, createAnswer, createdContainer}
 use Rattle.octets.specs.Rows.{row, firstRow}
@@ -28,9 +28,8 @@ use Rattle.octets.specs.Lists.{maybe}
 use Rattle.octets.specs.Facts.{Among}
 use Rattle.rules.specs.Claims.{Reported, Demand1, Demand1Create}
 use Rattle.octets.proofs.RowLaws.{clear}
-use Rattle.rules.proofs.Kept.{after-valid}
-use Rattle.rules.proofs.RequestLaws.{kinds, ProperOption, request-proper}
-use Rattle.rules.proofs.OutcomeLaws.{outcome-formed, answer-number}
+use Rattle.rules.proofs.RequestLaws.{kinds, request-proper}
+use Rattle.rules.proofs.OutcomeLaws.{outcome-formed, room-after, valid-after, answered-number}
 use Rattle.rules.proofs.NumberLaws.{broken-is, outcome-among, create-among, broken-among}
 use Rattle.rules.proofs.ReplyLaws.{done-replies, among-replies, unreplied, reply-fits, counted-front}
 use Rattle.rules.proofs.ReplyLaws.{uncounted, five-node, other-node, replied, lease-reply, lease-count}
@@ -46,36 +45,17 @@ replied-formed c q n = go (lengthAllowed c) (wellFormed c)
     go true false e = absurd (false≢true e)
     go true true e = refl
 
-valid-done : (p : Parts) (q : Option Request) (n : ℕ) → Valid p → ProperOption q →
-    firstRow (requestRows p q n) ≡ 0 → Valid (afterOf p q)
-unfolding requestRows afterOf maybe
-valid-done p none n v h e = v
-valid-done p (some r) n v h e = after-valid p r n v h e
-
-room-done : (p : Parts) (q : Option Request) → afterOf p q .room ≡ p .room
-unfolding afterOf maybe after withBytes withLeases
-room-done p none = refl
-room-done p (some (testWrite k ts ws cut)) = refl
-room-done p (some (add r)) = refl
-room-done p (some (renew t x)) = refl
-room-done p (some (cancel t)) = refl
-room-done p (some (read rs)) = refl
-
 room-parts : (c : List ℕ) → partsOf c .room ≡ length c
 unfolding partsOf
 room-parts c = refl
 
 module _ (c q r : List ℕ) where
-  number-is : answered c q r .number ≡ outcome c q (length r)
-  unfolding answered
-  number-is = answer-number (outcome c q (length r)) (partsOf c) (requestOf q)
-
   -- where the request is done, the container is the encoding of valid parts
   pub done-valid : outcome c q (length r) ≡ 0 → Valid (afterOf (partsOf c) (requestOf q))
   done-valid e =
       let w : wellFormed c ≡ true = replied-formed c q (length r) (done-replies _ e) in
-      valid-done (partsOf c) (requestOf q) (length r) (parts-valid c w) (request-proper q)
-      (sym (outcome-formed c q (length r) w) ∙ e)
+      valid-after (partsOf c) (requestOf q) (length r) (parts-valid c w) (request-proper q)
+      (eq-eqb _ _ (sym (outcome-formed c q (length r) w) ∙ e))
 
   pub done-container : outcome c q (length r) ≡ 0 → containerAfter c q r ≡ encode (afterOf (partsOf c) (requestOf q))
   unfolding containerAfter
@@ -93,7 +73,7 @@ module _ (c q r : List ℕ) where
           let z = eqb-true _ _ e in
           ap length (done-container z)
           ∙ length-encode _ (done-valid z)
-          ∙ room-done (partsOf c) (requestOf q)
+          ∙ room-after (partsOf c) (requestOf q)
           ∙ room-parts c
       go false e = ap length (refused-container (eqb-false _ _ e))
 
@@ -188,23 +168,25 @@ module _ (c q r : List ℕ) where
 
   -- DEMAND 1
   pub demand-1 : Demand1 c q r
-  demand-1 = record {
-    number = rw number-is (outcome-among c q (length r));
-    broken = λ f. rw number-is (broken-among c q (length r) f);
-    refused = λ h. refused-container (λ e. h (number-is ∙ e));
-    silent = λ h k. silent-reply (unreplied _ (λ e. h (number-is ∙ e)) (λ e. k (number-is ∙ e)));
-    uncounted = λ h k. no-count (unreplied _ (λ e. h (number-is ∙ e)) (λ e. k (number-is ∙ e)));
-    front = reply-front;
-    tests-reply = λ k ts ws cut f a. tests-reply k ts ws cut f (among-replies _ (rw number-is at a));
-    reads-reply = λ rs f e. reads-reply rs f (done-replies _ (sym number-is ∙ e));
-    leases-silent = leases-silent;
-    leases-count = λ l e. leases-count l (sym number-is ∙ e);
-    node = λ e. node-is (sym number-is ∙ e);
-    no-node = λ h. no-node (λ e. h (number-is ∙ e));
-    container-length = container-length;
-    reply-length = reply-length;
-    stays-formed = stays-formed;
-  }
+  demand-1 =
+      let n = answered-number c q r in
+      record {
+        number = rw n (outcome-among c q (length r));
+        broken = λ f. rw n (broken-among c q (length r) f);
+        refused = λ h. refused-container (λ e. h (n ∙ e));
+        silent = λ h k. silent-reply (unreplied _ (λ e. h (n ∙ e)) (λ e. k (n ∙ e)));
+        uncounted = λ h k. no-count (unreplied _ (λ e. h (n ∙ e)) (λ e. k (n ∙ e)));
+        front = reply-front;
+        tests-reply = λ k ts ws cut f a. tests-reply k ts ws cut f (among-replies _ (rw n at a));
+        reads-reply = λ rs f e. reads-reply rs f (done-replies _ (sym n ∙ e));
+        leases-silent = leases-silent;
+        leases-count = λ l e. leases-count l (sym n ∙ e);
+        node = λ e. node-is (sym n ∙ e);
+        no-node = λ h. no-node (λ e. h (n ∙ e));
+        container-length = container-length;
+        reply-length = reply-length;
+        stays-formed = stays-formed;
+      }
 
 -- ---- create
 pub created-valid : (c node enabler : List ℕ) → createOutcome c node enabler ≡ 0 → Valid (fresh (length c) node enabler)

@@ -22,12 +22,12 @@ use Rattle.rules.specs.Requests.{Test, Write, testWrite, kindOf, testWri
 use Rattle.rules.specs.Testing.{resolve, resolves, holds}
 use Rattle.rules.specs.Writing.{writesResolve, rewritten}
 use Rattle.rules.specs.Outcomes.{withBytes, after, afterOf, rows, roomRows, requestRows, replyTo}
-use Rattle.rules.specs.Outcomes.{outcome, answered, containerAfter, admitRows, findRows}
+use Rattle.rules.specs.Outcomes.{outcome, containerAfter, admitRows, findRows}
 use Rattle.octets.specs.Rows.{firstRow}
 use Rattle.rules.specs.Claims.{NotNegative, Accepts, Writes, Demand2}
 use Rattle.octets.proofs.RowLaws.{clear}
 use Rattle.rules.proofs.RequestLaws.{Kinds, broken, tests, adds, renews, cancels, reads, kinds}
-use Rattle.rules.proofs.OutcomeLaws.{outcome-formed, answer-number}
+use Rattle.rules.proofs.OutcomeLaws.{outcome-formed, answered-number}
 use Rattle.rules.proofs.ReplyLaws.{done-replies}
 use Rattle.rules.proofs.Demand1.{replied-formed, done-valid, done-container, tests-reply}
 
@@ -112,10 +112,6 @@ unfolding requestRows firstRow
 broken-three p n e = omega arith
 
 module _ (c q r : List ℕ) where
-  number-is : answered c q r .number ≡ outcome c q (length r)
-  unfolding answered
-  number-is = answer-number (outcome c q (length r)) (partsOf c) (requestOf q)
-
   accepts-done : Accepts c q (length r) → outcome c q (length r) ≡ 0
   accepts-done a = outcome-formed c q (length r) (a .formed) ∙ rw (a .format) (accepts-rows c q (length r) a)
 
@@ -158,6 +154,8 @@ module _ (c q r : List ℕ) where
   -- DEMAND 2
   pub demand-2 : Demand2 c q r
   demand-2 = record {
-    exactly = λ k. ((λ e. done-accepts k (sym number-is ∙ e)), (λ a. number-is ∙ accepts-done a));
+    exactly = λ k.
+        let n = answered-number c q r in
+        ((λ e. done-accepts k (sym n ∙ e)), (λ a. n ∙ accepts-done a));
     writes = done-writes;
   }

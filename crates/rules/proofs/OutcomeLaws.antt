@@ -1,18 +1,24 @@
--- The outcome on a well-formed container, with and without the room. Assumes nothing.
+-- The outcome on a well-formed container, with and without the room, and the parts afterwards. Assumes nothing.
 use mathlib.Core.Path.{_≡_, refl, _∙_}
 use mathlib.Core.Bool.{Bool, true, false, cond, true≢false}
 use mathlib.Core.List.{List, [], _∷_, _++_}
 use mathlib.Core.Option.{Option, none, some}
 use Prim.Native.Nat.{ℕ}
 use lib.Dec.{eqb, ltb}
+use lib.ListN.{length}
+use borrow.Author.Tests.{eqb-true}
 use Rattle.format.specs.Container.{lengthAllowed, wellFormed}
 use Rattle.format.specs.Parts.{Parts, used, partsOf, encode}
 use Rattle.format.specs.Claims.{Valid}
 use Rattle.octets.proofs.ListLaws.{both}
 use Rattle.format.proofs.RoundTrip.{encode-formed, parts-encode}
 use Rattle.rules.specs.Requests.{Request, testWrite, add, renew, cancel, read, requestOf}
-use Rattle.rules.specs.Outcomes.{after, rows, roomRows, requestRows, outcome, answerTo}
+use Rattle.rules.specs.Outcomes.{withBytes, withLeases, after, afterOf, rows, roomRows, requestRows, outcome}
+use Rattle.rules.specs.Outcomes.{answerTo, answered}
+use Rattle.octets.specs.Lists.{maybe}
 use Rattle.octets.specs.Rows.{Row, row, firstRow}
+use Rattle.rules.proofs.Kept.{after-valid}
+use Rattle.rules.proofs.RequestLaws.{ProperOption}
 
 pub formed-length : (c : List ℕ) → wellFormed c ≡ true → lengthAllowed c ≡ true
 unfolding wellFormed
@@ -33,6 +39,26 @@ pub answer-number : (n : ℕ) (p : Parts) (r : Option Request) → answerTo n p 
 unfolding answerTo
 answer-number n p none = refl
 answer-number n p (some r) = refl
+
+pub answered-number : (c q r : List ℕ) → answered c q r .number ≡ outcome c q (length r)
+unfolding answered
+answered-number c q r = answer-number (outcome c q (length r)) (partsOf c) (requestOf q)
+
+-- the parts afterwards: no request changes the room, and one that is done keeps the rules
+pub room-after : (p : Parts) (r : Option Request) → afterOf p r .room ≡ p .room
+unfolding afterOf maybe after withBytes withLeases
+room-after p none = refl
+room-after p (some (testWrite k ts ws cut)) = refl
+room-after p (some (add r)) = refl
+room-after p (some (renew t x)) = refl
+room-after p (some (cancel t)) = refl
+room-after p (some (read rs)) = refl
+
+pub valid-after : (p : Parts) (r : Option Request) (n : ℕ) → Valid p → ProperOption r
+    → eqb (firstRow (requestRows p r n)) 0 ≡ true → Valid (afterOf p r)
+unfolding requestRows afterOf maybe
+valid-after p none n v q e = v
+valid-after p (some r) n v q e = after-valid p r n v q (eqb-true _ _ e)
 
 -- a request's number without its room row
 unfoldable pub earlyRows : Parts → Option Request → ℕ → List Row

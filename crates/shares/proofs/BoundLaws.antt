@@ -8,7 +8,7 @@ use native.Mathlib.Numerals.{add-one}
 use native.Mathlib.Omega.{arith}
 use lib.Dec.{leb, ltb}
 use lib.ListN.{length, take, drop, getD, length-take, length-drop, take-append-drop}
-use lib.Seq.{drop-drop, take-take}
+use lib.Seq.{drop-drop}
 use borrow.Author.Tests.{leb-true, ltb-true}
 use Rattle.octets.proofs.ListLaws.{both}
 use Rattle.shares.specs.Bounds.{Bound, inOrder, partOf}
@@ -77,10 +77,3 @@ module _ (bs s : List ℕ) (i : ℕ) (h : PartInside bs (length s) i) where
       let k : a + n ≡ getD bs (suc i) 0 = omega (arith, risen .0) in
       let q : drop (getD bs (suc i) 0) s ≡ drop n (drop a s) = rw (drop-drop n a s, k) in
       rw (e, q) (take-append-drop n (drop a s))
-
--- A part of a part is a part of the whole.
-pub part-within : (a k n : ℕ) (l : List ℕ) → a + k ≤ n → take k (drop a (take n l)) ≡ take k (drop a l)
-part-within zero k n l h = take-take k n l (omega arith)
-part-within (suc a) k zero l h = absurd (omega arith)
-part-within (suc a) k (suc n) [] h = refl
-part-within (suc a) k (suc n) (x ∷ l) h = part-within a k n l (omega arith)

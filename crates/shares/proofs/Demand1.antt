@@ -6,9 +6,10 @@ use Prim.Native.Nat.{ℕ, suc, _+_, _-_, _≤_, _<_}
 use native.Mathlib.Omega.{arith}
 use lib.Dec.{eqb}
 use lib.ListN.{length, take, drop, getD, take-append-drop}
-use lib.Seq.{drop-length, drop-drop}
+use lib.Seq.{drop-length}
 use borrow.Author.Tests.{eqb-true, eqb-false, eq-eqb}
 use Rattle.octets.specs.Rows.{Row, firstRow}
+use Rattle.octets.proofs.ListLaws.{part-part}
 use Rattle.container.specs.Data.{lentOf, dataLent}
 use Rattle.container.proofs.DataLaws.{lends, lent-number}
 use Rattle.shares.specs.Bounds.{partOf}
@@ -21,7 +22,7 @@ use Rattle.shares.specs.Claims.{shareNumbers, containerNumbers, InTurn, 
 use Rattle.shares.proofs.ShareLaws.{checked-number, checked-refused, checked-bounds, none-empty}
 use Rattle.shares.proofs.ShareLaws.{bounds-inside, first-bound, last-bound, bounds-moved, container-refused}
 use Rattle.shares.proofs.ShareLaws.{container-zero, container-none, container-shares}
-use Rattle.shares.proofs.BoundLaws.{risen, part-length, part-on, part-within}
+use Rattle.shares.proofs.BoundLaws.{risen, part-length, part-on}
 use Rattle.shares.proofs.RowLaws.{order-facts, outcome-ordered}
 use Rattle.octets.specs.Lists.{anyOf}
 
@@ -151,8 +152,8 @@ module _ (c : List ℕ) (z : checkedContainer c .number ≡ 0) (i : ℕ) (h : i 
       let w : a + (e - a) ≤ lentOf c .to - f = omega (arith, lends c .ends, r .0, r .1) in
       let ma = bounds-moved f (dataLent c) i (omega arith) in
       let me = bounds-moved f (dataLent c) (suc i) (omega arith) in
-      rw (s .1, checked-bounds (dataLent c) (s .0), ma, me, m, ← drop-drop a f c)
-      (sym (part-within a (e - a) (lentOf c .to - f) (drop f c) w)
+      rw (s .1, checked-bounds (dataLent c) (s .0), ma, me, m)
+      (sym (part-part f (lentOf c .to - f) a (e - a) c w)
       ∙ ap (λ (l : List ℕ). take (e - a) (drop a l)) (lends c .bytes))
 
 pub demand-1-container : (c : List ℕ) → Demand1Container c

@@ -6,7 +6,7 @@ use borrow.Author.Tests.{not-true, not-false}
 use borrow.Author.Needs.{needs}
 use Rattle.format.specs.Layout.{recordSize, secretSize}
 use Rattle.leases.specs.Places.{hasToken}
-use Rattle.leases.proofs.PlaceLaws.{part-part}
+use Rattle.octets.proofs.ListLaws.{part-part}
 use Rattle.leases.proofs.places.has_token.Statement.{statement}
 use Rattle.leases.proofs.places.has_token.Tie as tie
 
