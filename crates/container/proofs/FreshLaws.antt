@@ -1,5 +1,5 @@
 -- Create: which row applies at each way out, and what the stores into a cleared buffer make of it. Assumes nothing.
-use mathlib.Core.Path.{_≡_, refl, sym, ap, _∙_}
+use mathlib.Core.Path.{_≡_, refl, sym, _∙_}
 use mathlib.Core.Bool.{true, false, _&&_}
 use mathlib.Core.List.{List, [], _++_, append-assoc}
 use Prim.Native.Nat.{ℕ, _+_, _-_, _*_, _≤_}
@@ -16,7 +16,7 @@ use Rattle.format.specs.Container.{lengthAllowed}
 use Rattle.format.specs.Parts.{used, extras, encode, noLease, fresh}
 use Rattle.rules.specs.Outcomes.{answerOf, noNode, createOutcome, createAnswer, createdContainer}
 use Rattle.octets.specs.Rows.{firstRow}
-use Rattle.octets.proofs.MoveLaws.{put-right, put-zeros, zeros-split}
+use Rattle.octets.proofs.MoveLaws.{put-append-zeros, zeros-split}
 use Rattle.format.proofs.RoundTrip.{encode-flat}
 use Rattle.rules.specs.declared.Answer.{Answer}
 
@@ -47,13 +47,6 @@ module _ (c node enabler : List ℕ) (x : Answer) where
   create-done c' h n k m e f = (rw (h, eq-eqb _ _ n, eq-eqb _ _ k, m, e), rw (h, eq-eqb _ _ n, eq-eqb _ _ k, m) f)
 
 -- ---- the stores
--- Bytes behind a, in place of the first of m zeros.
-put-behind : (at m k : ℕ) (bs a : List ℕ) → length a ≡ at → length bs + k ≡ m
-    → put at bs (a ++ replicate m 0) ≡ (a ++ bs) ++ replicate k 0
-put-behind at m k bs a p q =
-    put-right at 0 bs a (replicate m 0) (omega arith)
-    ∙ ap (λ (l : List ℕ). a ++ l) (put-zeros m k bs (sym q)) ∙ sym (append-assoc a bs (replicate k 0))
-
 -- The stores that make a fresh container of n zeros.
 module _ (n : ℕ) (m node enabler o : List ℕ) (room : least ≤ n) (lm : length m ≡ nodeAt) (ln : length node ≡ nodeSize)
     (le : length enabler ≡ secretSize) (lo : length o ≡ sizeWidth) where
@@ -61,9 +54,9 @@ module _ (n : ℕ) (m node enabler o : List ℕ) (room : least ≤ n) (lm : leng
       ≡ ((m ++ node) ++ enabler) ++ replicate (n - sizeAt) 0
   put-head =
       let l : length (m ++ node) ≡ enablerAt = length-append m node ∙ omega arith in
-      let p = put-behind 0 n (n - nodeAt) m [] refl (omega arith) in
-      let q = put-behind nodeAt (n - nodeAt) (n - enablerAt) node m lm (omega arith) in
-      let r = put-behind enablerAt (n - enablerAt) (n - sizeAt) enabler (m ++ node) l (omega arith) in
+      let p = put-append-zeros 0 n (n - nodeAt) m [] refl (omega arith) in
+      let q = put-append-zeros nodeAt (n - nodeAt) (n - enablerAt) node m lm (omega arith) in
+      let r = put-append-zeros enablerAt (n - enablerAt) (n - sizeAt) enabler (m ++ node) l (omega arith) in
       rw (p, q, r)
 
   put-offset : put offsetAt o (((m ++ node) ++ enabler) ++ replicate (n - sizeAt) 0)
@@ -78,7 +71,7 @@ module _ (n : ℕ) (m node enabler o : List ℕ) (room : least ≤ n) (lm : leng
         ← append-assoc h (replicate sizeWidth 0)
             (replicate (n - offsetAt) 0),
       )
-      (put-behind offsetAt (n - offsetAt) (n - leasesAt) o (h ++ replicate sizeWidth 0) l (omega arith))
+      (put-append-zeros offsetAt (n - offsetAt) (n - leasesAt) o (h ++ replicate sizeWidth 0) l (omega arith))
 
   zeros-end : replicate {A = ℕ} (n - leasesAt) 0
       ≡ replicate (fixedPlaces * recordSize) 0 ++ (replicate countSize 0 ++ replicate (n - least) 0)

@@ -7,7 +7,7 @@ use Rattle.octets.specs.Numbers.{numberAfter, number, digits}
 use Rattle.octets.specs.Strings.{join}
 use Rattle.octets.specs.Facts.{Octets, Each}
 use Rattle.octets.proofs.NumberLaws.{octets-digits}
-use Rattle.octets.proofs.StringLaws.{octets-take, octets-drop, octets-append}
+use Rattle.octets.proofs.StringLaws.{octets-take, octets-drop, octets-append, octets-join}
 use Rattle.format.specs.Layout.{magic, nodeAt, enablerAt, leasesAt, dataAt, countAt, nodeOf, enablerOf, sizeOf}
 use Rattle.format.specs.Layout.{dataOf, extrasOf, records, leasesOf, countSize, fixedPlaces, recordSize}
 use Rattle.format.specs.Layout.{nodeSize, secretSize, sizeWidth, extrasAt}
@@ -27,11 +27,6 @@ octets-zeros (suc n) (suc i) = octets-zeros n i
 octets-onto : (ss : List (List ℕ)) (t : List ℕ) → Each Octets ss → Octets t → Octets (foldr _++_ t ss)
 octets-onto [] t h o = o
 octets-onto (s ∷ ss) t h o = octets-append s (foldr _++_ t ss) (h .0) (octets-onto ss t (h .1) o)
-
-octets-join : (ss : List (List ℕ)) → Each Octets ss → Octets (join ss)
-unfolding join
-octets-join [] h = λ i. omega arith
-octets-join (s ∷ ss) h = octets-append s (join ss) (h .0) (octets-join ss (h .1))
 
 -- the magic is the 32 digits of a number
 octets-magic : Octets magic

@@ -6,12 +6,12 @@ use mathlib.Core.List.{List, [], _∷_, _++_, append-assoc}
 use Prim.Native.Nat.{ℕ, zero, suc, _+_, _-_, _*_, _^_, _≤_}
 use native.Mathlib.Omega.{arith}
 use lib.ListN.{length, take, drop, replicate, length-append, length-drop, length-replicate, take-append-drop}
-use lib.Seq.{length-take-le, drop-drop, take-at, drop-at}
+use lib.Seq.{length-take-le, take-at, drop-at}
 use Rattle.octets.specs.Numbers.{numberAfter, number, numberAt, digits}
 use Rattle.octets.specs.Strings.{allZero, join}
 use Rattle.octets.specs.Facts.{Octets, Each}
-use Rattle.octets.proofs.NumberLaws.{length-digits, number-digits, digits-number}
-use Rattle.octets.proofs.StringLaws.{same-eq, same-refl, zeros-are, allZero-replicate, octets-take, octets-drop}
+use Rattle.octets.proofs.NumberLaws.{length-digits, number-digits, digits-at}
+use Rattle.octets.proofs.StringLaws.{same-eq, same-refl, rest-field, allZero-replicate}
 use Rattle.format.specs.Layout.{magic, least, limit, nodeAt, enablerAt, sizeAt, offsetAt, leasesAt, dataAt}
 use Rattle.format.specs.Layout.{countAt, usedLength, nodeOf, enablerOf, sizeOf, dataOf, extrasOf, records}
 use Rattle.format.specs.Layout.{leasesOf, ownerOf, countSize, fixedPlaces, extraLimit, recordSize, sizeWidth}
@@ -20,7 +20,7 @@ use Rattle.format.specs.Container.{held, recordOk, lastHeld, wellFormed}
 use Rattle.format.specs.Parts.{Parts, extras, used, partsOf, encode, noLease, fresh, headOf, frontOf, tailOf}
 use Rattle.format.specs.Claims.{Place, Valid}
 use Rattle.octets.specs.Lists.{every}
-use Rattle.octets.proofs.ListLaws.{both, each-append, each-drop, each-take}
+use Rattle.octets.proofs.ListLaws.{both, each-append, each-drop, each-take, field-then, field-back}
 use Rattle.format.proofs.WellFormed.{Fields, Contents, formed-facts, formed-true, count-is, used-is}
 use Rattle.format.proofs.WellFormed.{length-records, records-shift, length-leases, join-records, length-join}
 use Rattle.format.proofs.WellFormed.{records-join, data-length}
@@ -99,21 +99,6 @@ parts-valid c w =
     }
 
 -- ---- from the bytes: they are the encoding of the parts
--- A field of k bytes at a, then what follows it.
-pub field-then : (c : List ℕ) (a k b : ℕ) (x t : List ℕ) → a + k ≡ b → take k (drop a c) ≡ x → drop b c ≡ t → drop a c
-    ≡ x ++ t
-field-then c a k b x t e p q =
-    sym (take-append-drop k (drop a c)) ∙ ap (λ (l : List ℕ). l ++ drop k (drop a c)) p
-    ∙ ap (λ (l : List ℕ). x ++ l) (drop-drop k a c ∙ ap (λ (n : ℕ). drop n c) e ∙ q)
-
--- The bytes of a field are the digits of its number.
-pub digits-at : (c : List ℕ) (n a v : ℕ) → a + n ≤ length c → Octets c → numberAt n a c ≡ v → take n (drop a c)
-    ≡ digits n v
-unfolding numberAt
-digits-at c n a v h o e =
-    sym (digits-number n (take n (drop a c)) (length-take-le n (drop a c) (rw length-drop (omega arith)))
-    (octets-take n (drop a c) (octets-drop a c o))) ∙ ap (digits n) e
-
 pub size-field : (c : List ℕ) → numberAt sizeWidth sizeAt c ≡ sizeOf c
 unfolding sizeOf
 size-field c = refl
@@ -140,9 +125,6 @@ four-field c = sym (ap join (four-leases c) ∙ join-records fixedPlaces leasesA
 pub extra-field : (c : List ℕ) → take (recordSize * extrasOf c) (drop (extrasAt (sizeOf c)) c)
     ≡ join (drop fixedPlaces (leasesOf c))
 extra-field c = sym (ap join (extra-leases c) ∙ join-records (extrasOf c) (extrasAt (sizeOf c)) c)
-
-pub rest-field : (c : List ℕ) (a : ℕ) → allZero (drop a c) ≡ true → drop a c ≡ replicate (length c - a) 0
-rest-field c a e = zeros-are (drop a c) e ∙ ap (λ (k : ℕ). replicate k 0) (length-drop a c)
 
 -- The table, with the parts as they stand in the container.
 pub laid-out : (c : List ℕ) → wellFormed c ≡ true → Octets c
@@ -210,15 +192,6 @@ pub parts-determine : (b c : List ℕ) → wellFormed b ≡ true → wellFormed 
 parts-determine b c wb wc ob oc e = sym (encode-parts b wb ob) ∙ ap encode e ∙ encode-parts c wc oc
 
 -- ---- from the parts
--- A field read back, and what follows it.
-pub field-back : (c : List ℕ) (k n j : ℕ) (m t : List ℕ) → drop k c ≡ m ++ t → length m ≡ n → k + n ≡ j
-    → (take n (drop k c) ≡ m) × (drop j c ≡ t)
-field-back c k n j m t e l q = (
-  rw e (take-at m t n l),
-  ap (λ (i : ℕ). drop i c) (sym q) ∙ sym (drop-drop n k c)
-      ∙ rw e (drop-at m t n l),
-)
-
 -- Joined records read back.
 pub records-back : (n a : ℕ) (c : List ℕ) (ls : List (List ℕ)) (t : List ℕ) → drop a c ≡ join ls ++ t → length ls ≡ n
     → Each (λ r. length r ≡ recordSize) ls → records n a c ≡ ls

@@ -13,15 +13,15 @@ use Rattle.octets.specs.Numbers.{numberAt, digits, number}
 use Rattle.octets.specs.Strings.{join}
 use Rattle.octets.specs.Facts.{Octets, Each}
 use Rattle.octets.specs.Moves.{put}
-use Rattle.octets.proofs.NumberLaws.{length-digits}
-use Rattle.octets.proofs.StringLaws.{zeros-are, octets-take, octets-drop}
+use Rattle.octets.proofs.NumberLaws.{length-digits, digits-at}
+use Rattle.octets.proofs.StringLaws.{zeros-are, octets-take, octets-drop, join-snoc}
 use Rattle.format.specs.Layout.{expiryOf, countSize, recordSize, fixedPlaces, leasesAt, dataAt, leasesOf}
 use Rattle.format.specs.Layout.{dataOf, usedLength, countAt, extrasAt, records, expiryAt, renewalAt}
 use Rattle.format.specs.Container.{held, recordOk}
 use Rattle.format.specs.Claims.{Place, Valid}
 use Rattle.format.specs.Parts.{extras, Parts, frontOf, headOf, tailOf, partsOf, used, noLease}
-use Rattle.octets.proofs.ListLaws.{each-take, each-drop, part-part}
-use Rattle.format.proofs.RoundTrip.{digits-at, field-then, parts-valid, places-sizes, no-lease, records-back}
+use Rattle.octets.proofs.ListLaws.{each-take, each-drop, each-set, part-part, field-then}
+use Rattle.format.proofs.RoundTrip.{parts-valid, places-sizes, no-lease, records-back}
 use Rattle.format.proofs.RoundTrip.{encode-parts}
 use Rattle.rules.specs.Leasing.{later, withLast, trim, dropTail, extended}
 use Rattle.rules.specs.Outcomes.{withLeases}
@@ -33,7 +33,7 @@ use Rattle.format.proofs.WellFormed.{length-leases, used-is, count-is}
 use Rattle.leases.specs.Changes.{leasedAs}
 use Rattle.leases.proofs.PlaceLaws.{known-places, by-place, fixed-at, extra-at, lease-at, place-inside}
 use Rattle.format.proofs.KnownLaws.{data-framed, extras-framed}
-use Rattle.rules.proofs.LeaseLaws.{each-set, length-trim, length-later}
+use Rattle.rules.proofs.LeaseLaws.{length-trim, length-later}
 use Rattle.format.specs.declared.layout.Frame.{Frame}
 
 -- ---- joined records
@@ -48,11 +48,6 @@ put-joined (x ∷ ls) zero r e h l =
 put-joined (x ∷ ls) (suc i) r e h l =
     put-right (recordSize * suc i) (recordSize * i) r x (join ls) (omega (arith, e .0))
     ∙ ap (λ (m : List ℕ). x ++ m) (put-joined ls i r (e .1) (omega arith) l)
-
-join-snoc : (x : List (List ℕ)) (r : List ℕ) → join (x ++ (r ∷ [])) ≡ join x ++ r
-unfolding join
-join-snoc [] r = append-nil r
-join-snoc (y ∷ x) r = ap (λ (l : List ℕ). y ++ l) (join-snoc x r) ∙ sym (append-assoc y (join x) r)
 
 -- ---- the empty tail
 empty-zeros : (r : List ℕ) → Place r → held r ≡ false → r ≡ replicate recordSize 0

@@ -15,7 +15,7 @@ use Rattle.format.specs.Layout.{leaseLimit, renewalAt, usedLength}
 use Rattle.format.specs.Container.{held}
 use Rattle.format.specs.Parts.{Parts, used, partsOf, noLease}
 use Rattle.format.specs.Claims.{Place, Valid}
-use Rattle.octets.proofs.ListLaws.{both, is-none, and-false}
+use Rattle.octets.proofs.ListLaws.{both, is-none, and-false, each-at}
 use Rattle.format.proofs.RoundTrip.{parts-valid}
 use Rattle.octets.specs.Lists.{isSome, maybe}
 use Rattle.rules.specs.Requests.{Request, add, renew, cancel}
@@ -23,7 +23,7 @@ use Rattle.rules.specs.Leasing.{renewedBy, cancelledBy, vacant, firstOf, later,
 use Rattle.rules.specs.Leasing.{added, renewed, cancelled, knows, present, placedIn}
 use Rattle.rules.specs.Outcomes.{withLeases, after, rows, roomRows, counted, admitRows, findRows}
 use Rattle.octets.specs.Rows.{firstRow}
-use Rattle.rules.proofs.LeaseLaws.{each-at, first-found, held-later}
+use Rattle.rules.proofs.LeaseLaws.{first-found, held-later}
 use Rattle.rules.proofs.Kept.{used-fewer}
 use Rattle.format.specs.Judging.{Known}
 use Rattle.leases.specs.Places.{hasToken, foundOf}

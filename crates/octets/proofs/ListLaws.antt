@@ -1,12 +1,14 @@
--- Tests in a row, tests over lists, what holds of each element, and parts of lists. Assumes nothing.
+-- Tests in a row, tests over lists, what holds of each element, parts and positions. Assumes nothing.
 use mathlib.Core.Path.{_≡_, refl, sym, ap, _∙_}
 use mathlib.Core.Bool.{Bool, true, false, cond, _&&_, false≢true, true≢false}
 use mathlib.Core.List.{List, [], _∷_, _++_}
 use mathlib.Core.Option.{Option, none, some}
-use Prim.Native.Nat.{ℕ, zero, suc, _+_, _-_, _≤_}
+use Prim.Native.Nat.{ℕ, zero, suc, _+_, _-_, _≤_, _<_, min}
 use native.Mathlib.Omega.{arith}
-use lib.ListN.{take, drop}
-use lib.Seq.{take-nil, take-take, drop-drop}
+use lib.Dec.{ltb}
+use lib.ListN.{length, take, drop, getD, set, replicate, length-take, take-append-drop, List·getD-eq-default}
+use lib.Seq.{take-nil, take-take, take-all, take-at, drop-at, drop-drop, getD-append-add}
+use borrow.Author.Tests.{ltb-true, ltb-false}
 use Rattle.octets.specs.Lists.{every, isSome, orElse}
 use Rattle.octets.specs.Facts.{Each}
 use Rattle.octets.specs.Last.{newer, lastSaid}
@@ -57,6 +59,16 @@ module _ {A : Type 0} (P : A → Type 0) where
   each-drop (suc n) [] h = h
   each-drop (suc n) (x ∷ ls) h = each-drop n ls (h .1)
 
+  pub each-set : (ls : List A) (i : ℕ) (r : A) → Each P ls → P r → Each P (set ls i r)
+  each-set [] i r h k = tt
+  each-set (x ∷ ls) zero r h k = (k, h .1)
+  each-set (x ∷ ls) (suc i) r h k = (h .0, each-set ls i r (h .1) k)
+
+  pub each-at : (ls : List A) (i : ℕ) (d : A) → i < length ls → Each P ls → P (getD ls i d)
+  each-at [] i d h e = absurd (omega arith)
+  each-at (x ∷ ls) zero d h e = e .0
+  each-at (x ∷ ls) (suc i) d h e = each-at ls i d (omega arith) (e .1)
+
 pub each-map : {A : Type 0} (P Q : A → Type 0) → ((x : A) → P x → Q x) → (xs : List A) → Each P xs → Each Q xs
 each-map P Q f [] e = tt
 each-map P Q f (x ∷ xs) e = (f x (e .0), each-map P Q f xs (e .1))
@@ -84,6 +96,47 @@ part-part p n f m c h =
     let e : n ≡ f + (n - f) = omega arith in
     ap (λ (j : ℕ). take m (drop f (take j (drop p c)))) e
     ∙ rw (drop-take f (n - f) (drop p c), take-take m (n - f) (drop f (drop p c)) (omega arith), drop-drop f p c)
+
+pub take-min : (n : ℕ) (d : List ℕ) → take n d ≡ take (min n (length d)) d
+take-min n d = go (ltb n (length d)) refl
+  where
+    go : (b : Bool) → ltb n (length d) ≡ b → take n d ≡ take (min n (length d)) d
+    go true e = let m : n ≡ min n (length d) = omega (arith, ltb-true n (length d) e) in ap (λ (k : ℕ). take k d) m
+    go false e = take-all n d (ltb-false n (length d) e)
+        ∙ sym (take-all (min n (length d)) d (omega (arith, ltb-false n (length d) e)))
+
+-- a field of k elements at a, then what follows it
+pub field-then : (c : List ℕ) (a k b : ℕ) (x t : List ℕ) → a + k ≡ b → take k (drop a c) ≡ x → drop b c ≡ t → drop a c
+    ≡ x ++ t
+field-then c a k b x t e p q =
+    sym (take-append-drop k (drop a c)) ∙ ap (λ (l : List ℕ). l ++ drop k (drop a c)) p
+    ∙ ap (λ (l : List ℕ). x ++ l) (drop-drop k a c ∙ ap (λ (n : ℕ). drop n c) e ∙ q)
+
+-- a field read back, and what follows it
+pub field-back : (c : List ℕ) (k n j : ℕ) (m t : List ℕ) → drop k c ≡ m ++ t → length m ≡ n → k + n ≡ j
+    → (take n (drop k c) ≡ m) × (drop j c ≡ t)
+field-back c k n j m t e l q = (
+  rw e (take-at m t n l),
+  ap (λ (i : ℕ). drop i c) (sym q) ∙ sym (drop-drop n k c)
+      ∙ rw e (drop-at m t n l),
+)
+
+-- ---- elements by position, where 0 stands past the end
+pub at-past : (l : List ℕ) (i : ℕ) → length l ≤ i → getD l i 0 ≡ 0
+at-past l i h = List·getD-eq-default l 0 h
+
+pub at-take-past : (n : ℕ) (l : List ℕ) (i : ℕ) → n ≤ i → getD (take n l) i 0 ≡ 0
+at-take-past n l i h = at-past (take n l) i (simp length-take (omega arith))
+
+pub at-rep : (n i : ℕ) → getD {A = ℕ} (replicate n 0) i 0 ≡ 0
+at-rep zero i = refl
+at-rep (suc n) zero = refl
+at-rep (suc n) (suc i) = at-rep n i
+
+pub at-app-right : (a b : List ℕ) (i : ℕ) → length a ≤ i → getD (a ++ b) i 0 ≡ getD b (i - length a) 0
+at-app-right a b i h =
+    let e : i ≡ length a + (i - length a) = omega arith in
+    ap (λ (k : ℕ). getD (a ++ b) k 0) e ∙ getD-append-add a b (i - length a) 0
 
 -- ---- what may be missing
 pub is-none : {A : Type 0} (o : Option A) → isSome o ≡ false → o ≡ none

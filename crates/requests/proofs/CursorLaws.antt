@@ -2,12 +2,12 @@
 use mathlib.Core.Path.{_≡_, refl, ap, _∙_}
 use mathlib.Core.Bool.{Bool, true, false, true≢false}
 use mathlib.Core.List.{List}
-use Prim.Native.Nat.{ℕ, suc, _+_, _-_, _^_, _≤_, _<_}
+use Prim.Native.Nat.{ℕ, suc, _+_, _-_, _^_, _<_}
 use native.Mathlib.Omega.{arith}
-use native.Mathlib.Nat.{not-suc-le-zero, lt-of-lt-of-le, pow-le-pow-right}
+use native.Mathlib.Nat.{not-suc-le-zero}
 use lib.Dec.{T, ltb}
 use lib.IntN.{ℤ, pos, negsuc, natAbs}
-use lib.ListN.{length, take, drop, length-take, length-drop}
+use lib.ListN.{length, drop, length-drop}
 use lib.Seq.{length-take-le}
 use lib.Signed.{ltZ, nonNeg}
 use mir.Syntax.{w32, w64}
@@ -22,8 +22,7 @@ use Rattle.rules.specs.Testing.{resolve, resolves, position}
 use Rattle.octets.specs.Lists.{isSome, orElse}
 use Rattle.octets.specs.Facts.{Octets}
 use Rattle.octets.specs.Numbers.{numberAt, signed}
-use Rattle.octets.proofs.NumberLaws.{number-bound}
-use Rattle.octets.proofs.StringLaws.{octets-take, octets-drop}
+use Rattle.octets.proofs.NumberLaws.{numberAt-below}
 use Rattle.rules.specs.Requests.{entrySpecimen, entryCount, entryOffset, paddingAt}
 use Rattle.requests.specs.Forms.{BodyIn}
 use Rattle.requests.specs.Cursors.{bodyOf, entryAt}
@@ -60,14 +59,6 @@ module _ (z : ℤ) (size : ℕ) (f : SFits w32 z) where
   resolved-above e = rw (toZ-ofZ w32 z f) (above-is z size (rw (toZ-ofZ w32 z f) at e))
 
 -- ---- how large a number of n bytes is
-pub numberAt-below : (n p : ℕ) (q : List ℕ) → Octets q → numberAt n p q < 256 ^ n
-unfolding numberAt
-numberAt-below n p q h =
-    let l : List ℕ = take n (drop p q) in
-    let m : length l ≤ n = omega (arith, length-take n (drop p q)) in
-    lt-of-lt-of-le (number-bound l (octets-take n (drop p q) (octets-drop p q h)))
-    (pow-le-pow-right {n = 256} (omega arith) m)
-
 pub specimen-below : (p : ℕ) (q : List ℕ) → Octets q → entrySpecimen p q < 65536
 unfolding entrySpecimen
 specimen-below p q h = numberAt-below 2 (p + (paddingAt + 1)) q h

@@ -11,11 +11,11 @@ use borrow.Author.Tests.{leb-true, leb-false}
 use Rattle.rules.specs.Writing.{writeAt, Placed, writeAll, cutTo, rewritten, placed}
 use Rattle.rules.specs.Changes.{covers, Change, wrote, cutAt, sizeBy, sizeAfter, says, cutChange, writeChanges}
 use Rattle.rules.specs.Changes.{changesOf}
-use Rattle.rules.proofs.WriteLaws.{length-write, at-write, at-take-past}
+use Rattle.rules.proofs.WriteLaws.{length-write, at-write}
 use Rattle.octets.specs.Lists.{orElse, maybe}
 use Rattle.octets.specs.Last.{lastSaid}
 use Rattle.rules.specs.Outcomes.{afterOf, after, withBytes, withLeases}
-use Rattle.octets.proofs.ListLaws.{orElse-newer}
+use Rattle.octets.proofs.ListLaws.{orElse-newer, at-take-past}
 use Rattle.rules.specs.Requests.{testWrite, add, renew, cancel, read, Request}
 use Rattle.format.specs.Parts.{Parts}
 

@@ -16,14 +16,14 @@ use Rattle.format.specs.Parts.{Parts, used, extras, noLease}
 use Rattle.format.specs.Claims.{Place, Valid}
 use Rattle.octets.specs.Lists.{isSome, maybe}
 use Rattle.octets.specs.Facts.{Each}
-use Rattle.octets.proofs.ListLaws.{both, each-append, each-take, each-drop}
+use Rattle.octets.proofs.ListLaws.{both, each-append, each-take, each-drop, each-set, each-at}
 use Rattle.format.proofs.RoundTrip.{no-lease}
 use Rattle.rules.specs.Requests.{Request, testWrite, add, renew, cancel, read}
 use Rattle.rules.specs.Leasing.{renewedBy, cancelledBy, vacant, firstOf, later, extended, trim, dropTail, added}
 use Rattle.rules.specs.Leasing.{renewed, cancelled, knows, present, placedIn}
 use Rattle.rules.specs.Outcomes.{withBytes, withLeases, after, rows, roomRows, admitRows, findRows}
 use Rattle.octets.specs.Rows.{firstRow}
-use Rattle.rules.proofs.LeaseLaws.{each-set, each-at, Found, first-found, full-present, length-later}
+use Rattle.rules.proofs.LeaseLaws.{Found, first-found, full-present, length-later}
 use Rattle.rules.proofs.LeaseLaws.{held-later, held-ok, last-drop-set, last-snoc, last-trim, each-trim}
 use Rattle.rules.proofs.LeaseLaws.{length-trim}
 use Rattle.octets.proofs.RowLaws.{Numbered, clear, rows-clear}

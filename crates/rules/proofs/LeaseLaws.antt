@@ -17,17 +17,6 @@ use Rattle.octets.specs.Lists.{maybe}
 use Rattle.octets.specs.Facts.{Each}
 use Rattle.rules.specs.Leasing.{vacant, firstOf, later, withLast, trim, present}
 
--- ---- what holds of each place
-pub each-set : {A : Type 0} (P : A → Type 0) (ls : List A) (i : ℕ) (r : A) → Each P ls → P r → Each P (set ls i r)
-each-set P [] i r h k = tt
-each-set P (x ∷ ls) zero r h k = (k, h .1)
-each-set P (x ∷ ls) (suc i) r h k = (h .0, each-set P ls i r (h .1) k)
-
-pub each-at : {A : Type 0} (P : A → Type 0) (ls : List A) (i : ℕ) (d : A) → i < length ls → Each P ls → P (getD ls i d)
-each-at P [] i d h e = absurd (omega arith)
-each-at P (x ∷ ls) zero d h e = e .0
-each-at P (x ∷ ls) (suc i) d h e = each-at P ls i d (omega arith) (e .1)
-
 -- ---- the first place that passes a test
 pub record Found (test : List ℕ → Bool) (ls : List (List ℕ)) (i : ℕ) : Type 0 where
   pub inside : i < length ls

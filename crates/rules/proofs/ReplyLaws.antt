@@ -1,16 +1,15 @@
 -- The reply and the answer record beside an outcome's number. Assumes nothing.
-use mathlib.Core.Path.{_≡_, refl, _∙_}
+use mathlib.Core.Path.{_≡_, refl}
 use mathlib.Core.Bool.{Bool, true, false, cond, false≢true}
 use mathlib.Core.List.{List, [], _∷_}
 use mathlib.Core.Option.{Option, none, some}
-use Prim.Native.Nat.{ℕ, _+_, _≤_}
-use native.Mathlib.Nat.{zero-add}
+use Prim.Native.Nat.{ℕ, _≤_}
 use native.Mathlib.Omega.{arith}
 use lib.ListN.{length, drop}
-use lib.Seq.{drop-at}
 use lib.Dec.{eqb}
 use borrow.Author.Tests.{ltb-false, ne-eqb}
 use Rattle.octets.specs.Moves.{put}
+use Rattle.octets.proofs.MoveLaws.{put-beyond}
 use Rattle.format.specs.Parts.{Parts}
 use Rattle.rules.specs.Requests.{Request, testWrite, add, renew, cancel, read, kindOf, requestOf}
 use Rattle.octets.specs.Lists.{anyOf, maybe}
@@ -69,18 +68,19 @@ reply-fits p (some (renew t x)) n e = omega arith
 reply-fits p (some (cancel t)) n e = omega arith
 reply-fits p (some (read rs)) n e = read-replies _ _ _ n _ (λ f. ltb-false n _ f) e
 
-pub put-front : (bs r : List ℕ) → drop (length bs) (put 0 bs r) ≡ drop (length bs) r
-put-front bs r = drop-at bs (drop (0 + length bs) r) (length bs) refl ∙ rw zero-add
-
 pub counted-front : (p : Parts) (q : Option Request) (n : ℕ) (r : List ℕ) → replies n ≡ true →
     drop (answerTo n p q .count) (put 0 (replyBytes p q) r) ≡ drop (answerTo n p q .count) r
 unfolding answerTo replyBytes maybe counted replyTo
 counted-front p none n r e = refl
-counted-front p (some (testWrite k ts ws cut)) n r e = rw e (put-front (replyTo p (testWrite k ts ws cut)) r)
+counted-front p (some (testWrite k ts ws cut)) n r e =
+    let s : List ℕ = replyTo p (testWrite k ts ws cut) in
+    rw e (put-beyond 0 (length s) s r (omega arith) (omega arith))
 counted-front p (some (add x)) n r e = refl
 counted-front p (some (renew t x)) n r e = refl
 counted-front p (some (cancel t)) n r e = refl
-counted-front p (some (read rs)) n r e = rw e (put-front (replyTo p (read rs)) r)
+counted-front p (some (read rs)) n r e =
+    let s : List ℕ = replyTo p (read rs) in
+    rw e (put-beyond 0 (length s) s r (omega arith) (omega arith))
 
 -- ---- the answer's count and node id
 pub uncounted : (n : ℕ) (p : Parts) (q : Option Request) → replies n ≡ false → answerTo n p q .count ≡ 0

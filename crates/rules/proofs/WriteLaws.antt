@@ -6,30 +6,16 @@ use mathlib.Core.Option.{Option, none, some}
 use Prim.Native.Nat.{ℕ, zero, suc, _+_, _-_, _≤_, _<_, min, max}
 use native.Mathlib.Omega.{arith}
 use lib.ListN.{length, getD, take, drop, replicate, length-append, length-take, length-drop, length-replicate}
-use lib.ListN.{List·getD-append, List·getD-eq-default}
-use lib.Seq.{getD-take, getD-drop, getD-append-add, ext-getD, take-all}
+use lib.ListN.{List·getD-append}
+use lib.Seq.{getD-take, getD-drop, ext-getD, take-all}
 use lib.Dec.{ltb}
 use borrow.Author.Tests.{ltb-true, ltb-false, lt-ltb, le-ltb, le-leb, lt-leb}
+use Rattle.octets.proofs.ListLaws.{at-past, at-rep, at-app-right, take-min}
 use Rattle.rules.specs.Writing.{padTo, writeAt, grow, Placed, writeAll, cutTo}
 use Rattle.rules.specs.Changes.{covers}
 use Rattle.rules.specs.Sizes.{sizeAll, cutSize, clip, resize}
 
-pub at-past : (l : List ℕ) (i : ℕ) → length l ≤ i → getD l i 0 ≡ 0
-at-past l i h = List·getD-eq-default l 0 h
-
-pub at-take-past : (n : ℕ) (l : List ℕ) (i : ℕ) → n ≤ i → getD (take n l) i 0 ≡ 0
-at-take-past n l i h = at-past (take n l) i (simp length-take (omega arith))
-
-pub at-rep : (n i : ℕ) → getD {A = ℕ} (replicate n 0) i 0 ≡ 0
-at-rep zero i = refl
-at-rep (suc n) zero = refl
-at-rep (suc n) (suc i) = at-rep n i
-
-pub at-app-right : (a b : List ℕ) (i : ℕ) → length a ≤ i → getD (a ++ b) i 0 ≡ getD b (i - length a) 0
-at-app-right a b i h =
-    let e : i ≡ length a + (i - length a) = omega arith in
-    ap (λ (k : ℕ). getD (a ++ b) k 0) e ∙ getD-append-add a b (i - length a) 0
-
+-- ---- padded data, by position and by length
 pub at-pad : (d : List ℕ) (n i : ℕ) → getD (padTo d n) i 0 ≡ getD d i 0
 unfolding padTo
 at-pad d n i = go (ltb i (length d)) refl
@@ -194,14 +180,6 @@ take-writes F ws d h = ext-getD 0 (take F (writeAll ws d)) (writeAll (map (clip 
         let g : i < F = omega (arith, ll) in
         getD-take F (writeAll ws d) i 0 g ∙ at-writeAll ws d i ∙ sym (at-writeAll (map (clip F) ws) (resize F d) i
         ∙ over-clipped F ws i (getD (resize F d) i 0) g ∙ ap (overAll ws i) (at-resize F d i g))
-
-pub take-min : (n : ℕ) (d : List ℕ) → take n d ≡ take (min n (length d)) d
-take-min n d = go (ltb n (length d)) refl
-  where
-    go : (b : Bool) → ltb n (length d) ≡ b → take n d ≡ take (min n (length d)) d
-    go true e = let m : n ≡ min n (length d) = omega (arith, ltb-true n (length d) e) in ap (λ (k : ℕ). take k d) m
-    go false e = take-all n d (ltb-false n (length d) e)
-        ∙ sym (take-all (min n (length d)) d (omega (arith, ltb-false n (length d) e)))
 
 -- THE LAW: writes in order and then the cut are the clipped writes over old data brought to the final size
 pub no-gap : (ws : List Placed) (c : Option ℕ) (d : List ℕ) →

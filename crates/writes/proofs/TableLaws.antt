@@ -11,12 +11,11 @@ use lib.Seq.{take-append-le, length-take-le}
 use borrow.Author.Tests.{ltb-true, ltb-false}
 use Rattle.octets.specs.Facts.{Octets}
 use Rattle.octets.specs.Moves.{put}
-use Rattle.octets.proofs.ListLaws.{and-assoc, and-true}
+use Rattle.octets.proofs.ListLaws.{and-assoc, and-true, take-min}
 use Rattle.rules.specs.Requests.{Write, entrySize, entryOffset, entryCount, sumFrom, writesFrom}
 use Rattle.rules.specs.Testing.{resolves}
 use Rattle.rules.specs.Writing.{padTo, writeAt, grow, placed, writesResolve, writeAll}
 use Rattle.rules.specs.Sizes.{sizeAll, clip}
-use Rattle.rules.proofs.WriteLaws.{take-min}
 use Rattle.requests.specs.Cursors.{entryAt}
 use Rattle.requests.specs.Offsets.{resolvedOf}
 use Rattle.requests.specs.Forms.{PartedIn}
