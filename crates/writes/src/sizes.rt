@@ -16,8 +16,8 @@ pub struct Reached {
     pub size: usize,
 }
 
-// The size after one write.
-pub(crate) fn grown(size: usize, position: usize, count: usize) -> usize
+// The size after one write, for crates above too.
+pub fn grown(size: usize, position: usize, count: usize) -> usize
     requires { ⌜ (position < 4294967296) × (count < 4294967296) ⌝ }
     ensures { λ r. ⌜ r ≡ grow size position count ⌝ }
 {
