@@ -1,6 +1,6 @@
 -- The words that lines begin with.
 use Prim.Native.Nat.{ℕ, _+_, _-_, _≤_}
-use mathlib.Core.Bool.{Bool, true, false}
+use mathlib.Core.Bool.{Bool, true, false, cond}
 use mathlib.Core.List.{List, [], _∷_}
 use lib.Dec.{eqb, ltb}
 use lib.ListN.{length, take, drop, getD}
@@ -24,36 +24,28 @@ use Rattle.replaying.specs.declared.commands.Word.{Word}
 use Rattle.replaying.specs.declared.commands.Word.the-variants.{Buffer, Load, Node, Enabler, Create, Bytes, Apply}
 use Rattle.replaying.specs.declared.commands.Word.the-variants.{Expect, Say, Unknown}
 
-abbrev pub pickWord : Bool → Word → Word → Word
-pickWord true a b = a
-pickWord false a b = b
-
 -- buffer, load, node, enabler, create, bytes, apply, expect, say; in ASCII.
 unfoldable pub wordOf : List ℕ → Word
 wordOf w =
-    pickWord (same w (98 ∷ 117 ∷ 102 ∷ 102 ∷ 101 ∷ 114 ∷ [])) Buffer
-    (pickWord (same w (108 ∷ 111 ∷ 97 ∷ 100 ∷ [])) Load
-    (pickWord (same w (110 ∷ 111 ∷ 100 ∷ 101 ∷ [])) Node
-    (pickWord (same w (101 ∷ 110 ∷ 97 ∷ 98 ∷ 108 ∷ 101 ∷ 114 ∷ [])) Enabler
-    (pickWord (same w (99 ∷ 114 ∷ 101 ∷ 97 ∷ 116 ∷ 101 ∷ [])) Create
-    (pickWord (same w (98 ∷ 121 ∷ 116 ∷ 101 ∷ 115 ∷ [])) Bytes
-    (pickWord (same w (97 ∷ 112 ∷ 112 ∷ 108 ∷ 121 ∷ [])) Apply
-    (pickWord (same w (101 ∷ 120 ∷ 112 ∷ 101 ∷ 99 ∷ 116 ∷ [])) Expect
-    (pickWord (same w (115 ∷ 97 ∷ 121 ∷ [])) Say Unknown))))))))
-
-abbrev pub pickCommand : Bool → Command → Command → Command
-pickCommand true a b = a
-pickCommand false a b = b
+    cond (same w (98 ∷ 117 ∷ 102 ∷ 102 ∷ 101 ∷ 114 ∷ [])) Buffer
+    (cond (same w (108 ∷ 111 ∷ 97 ∷ 100 ∷ [])) Load
+    (cond (same w (110 ∷ 111 ∷ 100 ∷ 101 ∷ [])) Node
+    (cond (same w (101 ∷ 110 ∷ 97 ∷ 98 ∷ 108 ∷ 101 ∷ 114 ∷ [])) Enabler
+    (cond (same w (99 ∷ 114 ∷ 101 ∷ 97 ∷ 116 ∷ 101 ∷ [])) Create
+    (cond (same w (98 ∷ 121 ∷ 116 ∷ 101 ∷ 115 ∷ [])) Bytes
+    (cond (same w (97 ∷ 112 ∷ 112 ∷ 108 ∷ 121 ∷ [])) Apply
+    (cond (same w (101 ∷ 120 ∷ 112 ∷ 101 ∷ 99 ∷ 116 ∷ [])) Expect
+    (cond (same w (115 ∷ 97 ∷ 121 ∷ [])) Say Unknown))))))))
 
 -- The word that begins at a position goes up to the next space.
 unfoldable pub wordTo : List ℕ → ℕ → ℕ → Command
 wordTo s at e = Do (wordOf (take (e - at) (drop at s))) e
 
 unfoldable pub commandHere : List ℕ → ℕ → Command
-commandHere s at = pickCommand (eqb (getD s at 0) 35) Nothing (wordTo s at (at + run (But 32) (drop at s)))
+commandHere s at = cond (eqb (getD s at 0) 35) Nothing (wordTo s at (at + run (But 32) (drop at s)))
 
 unfoldable pub commandFrom : List ℕ → ℕ → Command
-commandFrom s p = pickCommand (ltb p (length s)) (commandHere s p) Nothing
+commandFrom s p = cond (ltb p (length s)) (commandHere s p) Nothing
 
 -- The command of a line, behind spaces.
 unfoldable pub commandOf : List ℕ → Command
@@ -75,14 +67,10 @@ isEnd (NoItem f) = false
 unfoldable pub endsAt : List ℕ → ℕ → Bool
 endsAt s at = isEnd (itemAt s at)
 
-abbrev pub pickArgument : Bool → Argument → Argument → Argument
-pickArgument true a b = a
-pickArgument false a b = b
-
 abbrev pub argumentOf : List ℕ → Decimal → Argument
 argumentOf s Missing = Bad NoNumber
 argumentOf s TooLarge = Bad LargeNumber
-argumentOf s (Value v next) = pickArgument (endsAt s next) (Number v) (Bad More)
+argumentOf s (Value v next) = cond (endsAt s next) (Number v) (Bad More)
 
 -- The number behind spaces, where nothing follows it.
 unfoldable pub argumentAt : List ℕ → ℕ → ℕ → Argument

@@ -36,13 +36,9 @@ inside n (Number v next) = next ≤ n
 inside n (Text a e next) = (a ≤ e) × (e ≤ n) × (next ≤ n)
 inside n (Bad f) = Unit
 
-abbrev pub pickItem : Bool → Item → Item → Item
-pickItem true a b = a
-pickItem false a b = b
-
 -- 'text': all up to the next quote.
 unfoldable pub textTo : List ℕ → ℕ → ℕ → Item
-textTo s at e = pickItem (ltb e (length s)) (Text at e (e + 1)) (Bad Quote)
+textTo s at e = cond (ltb e (length s)) (Text at e (e + 1)) (Bad Quote)
 
 unfoldable pub textAt : List ℕ → ℕ → Item
 textAt s at = textTo s at (at + run (But 39) (drop at s))
@@ -72,13 +68,13 @@ standsAt s at b = cond (ltb at (length s)) (eqb (getD s at 0) b) false
 
 -- =N, with a minus sign or none.
 unfoldable pub numberAt : List ℕ → ℕ → Item
-numberAt s at = pickItem (standsAt s at 45) (negativeOf (decimalAt s (at + 1) 2147483648))
+numberAt s at = cond (standsAt s at 45) (negativeOf (decimalAt s (at + 1) 2147483648))
     (numberOf (decimalAt s at 4294967295))
 
 -- XX or XX*N, of which the pair was read.
 unfoldable pub repeatBy : List ℕ → ℕ → Pair → Item
 repeatBy s at NoPair = Bad NoItem
-repeatBy s at (Byte b) = pickItem (standsAt s (at + 2) 42) (repeatOf b (decimalAt s (at + 3) 65540))
+repeatBy s at (Byte b) = cond (standsAt s (at + 2) 42) (repeatOf b (decimalAt s (at + 3) 65540))
     (Repeat b 1 (at + 2))
 
 unfoldable pub repeatAt : List ℕ → ℕ → Item
@@ -87,12 +83,12 @@ repeatAt s at = repeatBy s at (pairAt s at)
 -- The item that begins with the byte at a position: # ends the line, ' begins text, = a number, all else is a pair.
 unfoldable pub itemHere : List ℕ → ℕ → Item
 itemHere s at =
-    pickItem (eqb (getD s at 0) 35) End
-    (pickItem (eqb (getD s at 0) 39) (textAt s (at + 1))
-    (pickItem (eqb (getD s at 0) 61) (numberAt s (at + 1)) (repeatAt s at)))
+    cond (eqb (getD s at 0) 35) End
+    (cond (eqb (getD s at 0) 39) (textAt s (at + 1))
+    (cond (eqb (getD s at 0) 61) (numberAt s (at + 1)) (repeatAt s at)))
 
 unfoldable pub itemFrom : List ℕ → ℕ → Item
-itemFrom s p = pickItem (ltb p (length s)) (itemHere s p) End
+itemFrom s p = cond (ltb p (length s)) (itemHere s p) End
 
 -- The next item, behind spaces.
 unfoldable pub itemAt : List ℕ → ℕ → Item

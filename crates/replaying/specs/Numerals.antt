@@ -1,7 +1,7 @@
 -- Decimal numbers and pairs of hexadecimal digits in a text.
 use Prim.Native.Nat.{ℕ, _+_, _-_, _*_, _≤_, _<_}
 use mathlib.Core.Path.{_≡_}
-use mathlib.Core.Bool.{Bool, true, false, cond}
+use mathlib.Core.Bool.{cond}
 use mathlib.Core.List.{List, [], _∷_}
 use lib.Dec.{eqb, ltb}
 use lib.ListN.{length, take, drop, getD}
@@ -25,14 +25,11 @@ valueOf ds = valueAfter 0 ds
 abbrev pub Capped : ℕ → ℕ → ℕ → Type 0
 Capped most v r = (r ≤ most → r ≡ v) × (most < r → most < v)
 
-abbrev pub pickDecimal : Bool → Decimal → Decimal → Decimal
-pickDecimal true a b = a
-pickDecimal false a b = b
-
 -- The number whose digits are ds, with the position behind it: no digit, above the bound, or its value.
 unfoldable pub decimalOf : List ℕ → ℕ → ℕ → Decimal
-decimalOf ds next most = pickDecimal (eqb (length ds) 0) Missing (pickDecimal (ltb most (valueOf ds)) TooLarge
-    (Value (valueOf ds) next))
+decimalOf ds next most =
+    cond (eqb (length ds) 0) Missing
+    (cond (ltb most (valueOf ds)) TooLarge (Value (valueOf ds) next))
 
 -- The number at a position: its digits are the run of digits there.
 unfoldable pub decimalTo : List ℕ → ℕ → ℕ → ℕ → Decimal
@@ -57,13 +54,9 @@ hexOf b =
     (cond (ltb b 97) 16
     (cond (ltb b 103) (b - 87) 16)))))
 
-abbrev pub pickPair : Bool → Pair → Pair → Pair
-pickPair true a b = a
-pickPair false a b = b
-
 -- The byte that two hexadecimal digits are.
 unfoldable pub pairOf : ℕ → ℕ → Pair
-pairOf hi lo = pickPair (ltb 15 hi) NoPair (pickPair (ltb 15 lo) NoPair (Byte (hi * 16 + lo)))
+pairOf hi lo = cond (ltb 15 hi) NoPair (cond (ltb 15 lo) NoPair (Byte (hi * 16 + lo)))
 
 unfoldable pub pairAt : List ℕ → ℕ → Pair
-pairAt s at = pickPair (ltb (length s - at) 2) NoPair (pairOf (hexOf (getD s at 0)) (hexOf (getD s (at + 1) 0)))
+pairAt s at = cond (ltb (length s - at) 2) NoPair (pairOf (hexOf (getD s at 0)) (hexOf (getD s (at + 1) 0)))

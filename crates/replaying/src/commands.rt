@@ -7,10 +7,11 @@ use crate::numerals::Decimal;
 use crate::scanning;
 use crate::scanning::Sort;
 ghost use mathlib.Core.Path.{_≡_};
+ghost use mathlib.Core.Bool.{cond};
 ghost use Prim.Native.Nat.{_≤_, _<_};
 ghost use lib.ListN.{length};
 ghost use Rattle.octets.specs.Strings.{same};
-ghost use Rattle.replaying.specs.Commands.{pickWord, wordOf, commandHere, commandOf, followed};
+ghost use Rattle.replaying.specs.Commands.{wordOf, commandHere, commandOf, followed};
 ghost use Rattle.replaying.specs.Commands.{endsAt, argumentAt};
 
 pub enum Word {
@@ -49,7 +50,7 @@ fn is(w: &[u8], name: &[u8]) -> bool
 
 // One word or the other.
 fn pick(is: bool, word: Word, other: Word) -> Word
-    ensures { λ r. ⌜ r ≡ pickWord is word other ⌝ }
+    ensures { λ r. ⌜ r ≡ cond is word other ⌝ }
 {
     if is {
         return word;
