@@ -7,6 +7,7 @@ use format::layout::LEASES_AT;
 use format::layout::RECORD_SIZE;
 use libc::STDOUT_FILENO;
 use replaying::items::Fault;
+use replies::pieces::LENGTH_SIZE;
 use requests::cursors::Cursor;
 use rules::Answer;
 ghost use Prim.Native.Nat.{_+_, _*_, _≤_, _<_};
@@ -209,13 +210,13 @@ fn piece(i: usize, s: &[u8]) {
 
 // The n pieces of a reply: a table of their lengths, then the pieces.
 fn pieces(r: &[u8], n: usize) {
-    if r.len() / 4 < n {
+    if r.len() / LENGTH_SIZE < n {
         return;
     }
-    let mut at = 4 * n;
+    let mut at = LENGTH_SIZE * n;
     let mut i = 0;
     while i < n {
-        let k = octets::numbers::u32_at(r, 4 * i) as usize;
+        let k = octets::numbers::u32_at(r, LENGTH_SIZE * i) as usize;
         if r.len() - at < k {
             return;
         }

@@ -11,7 +11,7 @@ use requests::forms::Table;
 use requests::offsets::resolve;
 
 // The width of a piece's length in a reply.
-pub(crate) const LENGTH_SIZE: usize = 4;
+pub const LENGTH_SIZE: usize = 4;
 
 // What a table asks, in numbers: whether every offset resolves, whether some entry reaches past the end of data, and
 // the length of the reply.

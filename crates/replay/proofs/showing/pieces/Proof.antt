@@ -2,11 +2,12 @@
 use Prim.Native.Nat.{_≤_, _-_, _*_}
 use lib.ListN.{length}
 use native.Mathlib.Omega.{arith}
+use Rattle.rules.specs.Testing.{lengthSize}
 use Rattle.replay.proofs.showing.pieces.Statement.{statement}
 use Rattle.replay.proofs.showing.pieces.Tie as tie
 
 abbrev Inv-loop : tie.InvT-loop
-Inv-loop r n at₀ i₀ at i = (i ≤ n) × (4 * n ≤ length r) × (at ≤ length r)
+Inv-loop r n at₀ i₀ at i = (i ≤ n) × (lengthSize * n ≤ length r) × (at ≤ length r)
 
 abbrev μ-loop : tie.MeasureT-loop
 μ-loop r n at₀ i₀ at i = n - i
