@@ -2,11 +2,12 @@
 use Prim.Native.Nat.{_≤_, _-_, _+_, _*_}
 use mathlib.Core.Path.{_≡_}
 use native.Mathlib.Omega.{arith}
+use Rattle.format.specs.Layout.{recordSize}
 use Rattle.replay.proofs.showing.leases.Statement.{statement}
 use Rattle.replay.proofs.showing.leases.Tie as tie
 
 abbrev Inv-loop : tie.InvT-loop
-Inv-loop c from n place i₀ p₀ i p = (i ≤ n) × (p ≡ from + 92 * i)
+Inv-loop c from n place i₀ p₀ i p = (i ≤ n) × (p ≡ from + recordSize * i)
 
 abbrev μ-loop : tie.MeasureT-loop
 μ-loop c from n place i₀ p₀ i p = n - i
