@@ -67,8 +67,8 @@ unfoldable pub standsAt : List ℕ → ℕ → ℕ → Bool
 standsAt s at b = cond (ltb at (length s)) (eqb (getD s at 0) b) false
 
 -- =N, with a minus sign or none.
-unfoldable pub numberAt : List ℕ → ℕ → Item
-numberAt s at = cond (standsAt s at 45) (negativeOf (decimalAt s (at + 1) 2147483648))
+unfoldable pub numeralAt : List ℕ → ℕ → Item
+numeralAt s at = cond (standsAt s at 45) (negativeOf (decimalAt s (at + 1) 2147483648))
     (numberOf (decimalAt s at 4294967295))
 
 -- XX or XX*N, of which the pair was read.
@@ -85,7 +85,7 @@ unfoldable pub itemHere : List ℕ → ℕ → Item
 itemHere s at =
     cond (eqb (getD s at 0) 35) End
     (cond (eqb (getD s at 0) 39) (textAt s (at + 1))
-    (cond (eqb (getD s at 0) 61) (numberAt s (at + 1)) (repeatAt s at)))
+    (cond (eqb (getD s at 0) 61) (numeralAt s (at + 1)) (repeatAt s at)))
 
 unfoldable pub itemFrom : List ℕ → ℕ → Item
 itemFrom s p = cond (ltb p (length s)) (itemHere s p) End

@@ -9,7 +9,7 @@ ghost use Prim.Native.Nat.{_+_, _-_, _≤_, _<_};
 ghost use lib.ListN.{length, replicate};
 ghost use Rattle.octets.specs.Moves.{put};
 ghost use Rattle.replaying.specs.Items.{inside, textAt, negated, numberOf, negativeOf, repeatOf, standsAt};
-ghost use Rattle.replaying.specs.Items.{numberAt, repeatAt, itemHere, itemAt, lineRight, lineBytes, Stepped};
+ghost use Rattle.replaying.specs.Items.{numeralAt, repeatAt, itemHere, itemAt, lineRight, lineBytes, Stepped};
 ghost use Rattle.replaying.specs.Items.{Written};
 
 // Why a line is refused; the last three are for whoever runs the lines.
@@ -115,7 +115,7 @@ fn stands(s: &[u8], at: usize, b: u8) -> bool
 // A number whose sign or first digit is at `at`; a negative one is at least -2^31.
 fn number(s: &[u8], at: usize) -> Item
     requires { ⌜ at ≤ length (now s) ⌝ }
-    ensures { λ r. ⌜ (r ≡ numberAt (now (s .entry)) at) × inside (length (now (s .entry))) r ⌝ }
+    ensures { λ r. ⌜ (r ≡ numeralAt (now (s .entry)) at) × inside (length (now (s .entry))) r ⌝ }
 {
     if stands(s, at, 45) {
         return negative_item(numerals::decimal_at(s, at + 1, 2147483648));

@@ -2,7 +2,7 @@
 use native.Mathlib.Omega.{arith}
 use lib.ListN.{length}
 use mathlib.Core.Path.{sym, ap, _∙_}
-use Rattle.replaying.specs.Items.{numberAt, numberOf, negativeOf}
+use Rattle.replaying.specs.Items.{numeralAt, numberOf, negativeOf}
 use Rattle.replaying.proofs.ItemLaws.{stands-inside, number-inside, negative-inside}
 use borrow.Author.Needs.{needs}
 use Rattle.replaying.proofs.items.number.Statement.{statement}
@@ -21,7 +21,7 @@ negative-item-requires : tie.Need-negative-item-requires
 negative-item-requires c κs = search needs
 
 returns : tie.Need-returns
-unfolding numberAt
+unfolding numeralAt
 returns c = (
   rw (sym (c .before .before .before .stands .ensures) ∙ c .before .before .if1 .taken) (c .negative-item .ensures
       ∙ ap negativeOf (c .before .decimal-at .ensures .0)),
@@ -36,7 +36,7 @@ number-item-requires : tie.Need-number-item-requires
 number-item-requires c κs = search needs
 
 returns-2 : tie.Need-returns-2
-unfolding numberAt
+unfolding numeralAt
 returns-2 c = (
   rw (sym (c .before .before .before .stands .ensures) ∙ c .before .before .if1 .left) (c .number-item .ensures
       ∙ ap numberOf (c .before .decimal-at2 .ensures .0)),
