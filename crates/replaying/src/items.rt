@@ -27,7 +27,7 @@ pub enum Fault {
 }
 
 // What stands next on a line; each but the first and the last ends with the position behind it.
-pub enum Item {
+pub(crate) enum Item {
     End,
     // A byte and how often.
     Repeat(u8, usize, usize),

@@ -7,13 +7,13 @@ ghost use lib.ListN.{length};
 ghost use Rattle.replaying.specs.Numerals.{Capped, valueOf, decimalAt, reaches, hexOf, pairAt};
 
 // A decimal number: no digit, a value above the bound, or the value and the position behind it.
-pub enum Decimal {
+pub(crate) enum Decimal {
     Missing,
     TooLarge,
     Value(u32, usize),
 }
 
-pub enum Pair {
+pub(crate) enum Pair {
     Missing,
     Byte(u8),
 }
