@@ -1,6 +1,7 @@
 // Runs a file line by line, and stops at the first line that breaks the layout.
 use crate::showing;
 use crate::showing::clip;
+use format::layout::LIMIT;
 use replaying::commands;
 use replaying::commands::Argument;
 use replaying::commands::Command;
@@ -12,6 +13,9 @@ use replaying::scanning;
 use replaying::scanning::Sort;
 ghost use Prim.Native.Nat.{_≤_};
 ghost use lib.ListN.{length};
+
+// A little more than the limit, so that a container and a request that are one byte too long can be replayed.
+const BUFFER_SIZE: usize = LIMIT + 4;
 
 // What lines before this one have set: the lengths of the container, the request, the node id and the enabler, which
 // stand at the front of their buffers, and the last answer. A length never exceeds its buffer; `clip` spares the
@@ -47,7 +51,7 @@ fn begin(s: &[u8], at: usize, st: State, c: &mut [u8]) -> Step
     if st.request != 0 {
         return Step::Stop(Fault::Begun);
     }
-    match commands::only_number(s, at, 65540) {
+    match commands::only_number(s, at, BUFFER_SIZE as u32) {
         Argument::Bad(f) => Step::Stop(f),
         Argument::Number(n) => {
             close(st, c);
@@ -296,8 +300,8 @@ fn run_all(
 }
 
 pub(crate) fn run_text(name: &[u8], t: &[u8]) -> bool {
-    let mut c = [0u8; 65540];
-    let mut q = [0u8; 65540];
+    let mut c = [0u8; BUFFER_SIZE];
+    let mut q = [0u8; BUFFER_SIZE];
     let mut r = [0u8; 8192];
     let mut node_id = [0u8; 64];
     let mut secret = [0u8; 64];

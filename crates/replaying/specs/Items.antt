@@ -71,10 +71,14 @@ unfoldable pub numeralAt : List ℕ → ℕ → Item
 numeralAt s at = cond (standsAt s at 45) (negativeOf (decimalAt s (at + 1) 2147483648))
     (numberOf (decimalAt s at 4294967295))
 
+-- The largest N of XX*N.
+abbrev pub mostRepeats : ℕ
+mostRepeats = 65540
+
 -- XX or XX*N, of which the pair was read.
 unfoldable pub repeatBy : List ℕ → ℕ → Pair → Item
 repeatBy s at NoPair = Bad NoItem
-repeatBy s at (Byte b) = cond (standsAt s (at + 2) 42) (repeatOf b (decimalAt s (at + 3) 65540))
+repeatBy s at (Byte b) = cond (standsAt s (at + 2) 42) (repeatOf b (decimalAt s (at + 3) mostRepeats))
     (Repeat b 1 (at + 2))
 
 unfoldable pub repeatAt : List ℕ → ℕ → Item

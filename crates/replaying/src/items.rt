@@ -12,6 +12,9 @@ ghost use Rattle.replaying.specs.Items.{inside, textAt, negated, numberO
 ghost use Rattle.replaying.specs.Items.{numeralAt, repeatAt, itemHere, itemAt, lineRight, lineBytes, Stepped};
 ghost use Rattle.replaying.specs.Items.{Written};
 
+// The largest N of XX*N: enough for a container or a request that is a little too long.
+const MOST_REPEATS: u32 = 65540;
+
 // Why a line is refused; the last three are for whoever runs the lines.
 pub enum Fault {
     Word,
@@ -132,7 +135,7 @@ fn repeat(s: &[u8], at: usize) -> Item
         Pair::Missing => Item::Bad(Fault::Item),
         Pair::Byte(b) => {
             if stands(s, at + 2, 42) {
-                return repeat_item(b, numerals::decimal_at(s, at + 3, 65540));
+                return repeat_item(b, numerals::decimal_at(s, at + 3, MOST_REPEATS));
             }
             Item::Repeat(b, 1, at + 2)
         }
