@@ -1,4 +1,4 @@
--- The incident: bytes from before a cut showed up again inside a laterChanges gap. What is claimed against it, over whole
+-- The incident: bytes from before a cut showed up again inside a later gap. What is claimed against it, over whole
 -- histories. Proved in proofs/Incident.antt.
 use Prim.Native.Nat.{ℕ, _+_, _≤_, _<_}
 use mathlib.Core.Path.{_≡_}
@@ -47,7 +47,8 @@ pub record Forgets (c : List ℕ) (before : List Call) (x : Call) (after : List 
       getD (dataOf (end c before x after)) i 0 ≡ byteAfter (laterChanges after (middle c before x)) i
   -- so is each byte that a read of n bytes at o gives
   pub reads : (o n j : ℕ) → j < n → m ≤ o + j →
-      getD (piece (dataOf (end c before x after)) (pos o) n) j 0 ≡ byteAfter (laterChanges after (middle c before x)) (o + j)
+      getD (piece (dataOf (end c before x after)) (pos o) n) j 0
+      ≡ byteAfter (laterChanges after (middle c before x)) (o + j)
   -- a place that none of those calls wrote holds zero
   pub zeros : (i : ℕ) → m ≤ i → Each (Untouched i) (laterChanges after (middle c before x)) →
       getD (dataOf (end c before x after)) i 0 ≡ 0

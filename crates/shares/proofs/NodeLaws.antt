@@ -19,7 +19,8 @@ unfolding nodesFrom
 nodes-none zero p s h = refl
 nodes-none (suc n) p s h = absurd (not-suc-le-zero h)
 
-nodes-some : (n p : ℕ) (s : List ℕ) → 0 < n → nodesFrom n p s ≡ numberAt 2 p s ∷ nodesFrom (n - 1) (p + chainEntrySize) s
+nodes-some : (n p : ℕ) (s : List ℕ) → 0 < n
+    → nodesFrom n p s ≡ numberAt 2 p s ∷ nodesFrom (n - 1) (p + chainEntrySize) s
 unfolding nodesFrom
 nodes-some zero p s h = absurd (not-suc-le-zero h)
 nodes-some (suc n) p s h =
