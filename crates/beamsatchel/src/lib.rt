@@ -10,7 +10,7 @@ pub extern "C" fn beamsatchel_create(c: &mut [u8], node: &[u8], enabler: &[u8]) 
     ensures { λ r. ⌜ r ≡ createAnswer (now (c .entry)) (now (node .entry)) (now (enabler .entry)) ⌝ }
     ensures { λ _. ⌜ now (c .exit) ≡ createdContainer (now (c .entry)) (now (node .entry)) (now (enabler .entry)) ⌝ }
 {
-    container::creation::create(c, node, enabler)
+    creation::create(c, node, enabler)
 }
 
 #[no_mangle]

@@ -1,7 +1,5 @@
 -- Laws about whole requests, which the proofs of this crate and of those above cite.
-pub mod FreshLaws
 pub mod DataLaws
 pub mod LeaseRequestLaws
 pub mod ReadLaws
 pub mod RefusalLaws
-pub mod WriteRequestLaws

@@ -1,4 +1,3 @@
 -- What the operations' contracts cite beside the rules.
 pub mod Data
 pub mod Reading
-pub mod Writing

@@ -3,11 +3,11 @@ ghost use mathlib.Core.Path.{_≡_};
 ghost use Rattle.format.specs.Judging.{Known};
 ghost use Rattle.rules.specs.Outcomes.{answered, replyAfter};
 ghost use Rattle.container.specs.Reading.{ReadRequest};
-use crate::answers::answer;
 use format::layout::DATA_AT;
 use format::layout::Frame;
 use requests::forms::Table;
 use rules::Answer;
+use rules::answers::answer;
 
 pub(crate) fn read(c: &[u8], frame: Frame, q: &[u8], t: Table, r: &mut [u8]) -> Answer
     requires { ⌜ Known (now c) frame × ReadRequest (now q) t ⌝ }

@@ -2,9 +2,7 @@
 ghost use mathlib.Core.Path.{_≡_};
 ghost use Rattle.format.specs.Judging.{Known};
 ghost use Rattle.rules.specs.Outcomes.{answered, containerAfter, replyAfter};
-use crate::answers::answer;
 use crate::reading::read;
-use crate::writing::test_and_write;
 use format::judging::Judged;
 use format::layout::Frame;
 use leases::operations::add_lease;
@@ -12,6 +10,8 @@ use leases::operations::cancel_lease;
 use leases::operations::renew_lease;
 use requests::forms::Form;
 use rules::Answer;
+use rules::answers::answer;
+use verdicts::writing::test_and_write;
 
 // By the form of the request.
 fn apply_formed(c: &mut [u8], frame: Frame, q: &[u8], r: &mut [u8]) -> Answer

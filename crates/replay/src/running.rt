@@ -118,7 +118,7 @@ fn create(s: &[u8], at: usize, st: State, c: &mut [u8], node: &[u8], enabler: &[
     let n = clip(st.length, c);
     let a = clip(st.node, node);
     let b = clip(st.enabler, enabler);
-    let x = container::creation::create(&mut c[..n], &node[..a], &enabler[..b]);
+    let x = creation::create(&mut c[..n], &node[..a], &enabler[..b]);
     showing::created(x);
     let mut next = st;
     next.last = x.number;

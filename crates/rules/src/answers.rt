@@ -3,14 +3,14 @@ ghost use mathlib.Core.Path.{_≡_};
 ghost use Prim.Native.Nat.{_≤_};
 ghost use lib.ListN.{length};
 ghost use Rattle.format.specs.Layout.{least, nodeOf};
 ghost use Rattle.rules.specs.Outcomes.{answerOf, noNode};
+use crate::Answer;
 use format::layout::ENABLER_AT;
 use format::layout::NODE_AT;
 use format::layout::NODE_SIZE;
-use rules::Answer;
 
 // A number with a count, and no node id.
-pub(crate) fn answer(number: u32, count: usize) -> Answer
+pub fn answer(number: u32, count: usize) -> Answer
     ensures { λ r. ⌜ r ≡ answerOf number noNode count ⌝ }
 {
     Answer {
@@ -21,7 +21,7 @@ pub(crate) fn answer(number: u32, count: usize) -> Answer
 }
 
 // Outcome 5 names the node that accepted the write enabler.
-pub(crate) fn enabler_differs(c: &[u8]) -> Answer
+pub fn enabler_differs(c: &[u8]) -> Answer
     requires { ⌜ least ≤ length (now c) ⌝ }
     ensures { λ r. ⌜ r ≡ answerOf 5 (nodeOf (now (c .entry))) 0 ⌝ }
 {

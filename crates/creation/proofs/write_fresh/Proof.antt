@@ -1,9 +1,9 @@
 -- The stores into a cleared buffer, one after the other. Assumes nothing.
 use lib.ListN.{length}
-use Rattle.container.proofs.FreshLaws.{fresh-bytes}
+use Rattle.creation.proofs.FreshLaws.{fresh-bytes}
 use borrow.Author.Needs.{needs}
-use Rattle.container.proofs.creation.write_fresh.Statement.{statement}
-use Rattle.container.proofs.creation.write_fresh.Tie as tie
+use Rattle.creation.proofs.write_fresh.Statement.{statement}
+use Rattle.creation.proofs.write_fresh.Tie as tie
 
 clear-requires : tie.Need-clear-requires
 clear-requires c κs = search needs

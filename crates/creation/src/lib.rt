@@ -5,7 +5,6 @@ ghost use lib.ListN.{length};
 ghost use Rattle.format.specs.Layout.{least, nodeSize, secretSize};
 ghost use Rattle.format.specs.Parts.{encode, fresh};
 ghost use Rattle.rules.specs.Outcomes.{createAnswer, createdContainer};
-use crate::answers::answer;
 use format::layout::DATA_AT;
 use format::layout::ENABLER_AT;
 use format::layout::LEAST;
@@ -15,6 +14,7 @@ use format::layout::NODE_SIZE;
 use format::layout::OFFSET_AT;
 use format::layout::SECRET_SIZE;
 use rules::Answer;
+use rules::answers::answer;
 
 // Everything is overwritten: the buffer may hold anything.
 fn write_fresh(c: &mut [u8], node: &[u8], enabler: &[u8])

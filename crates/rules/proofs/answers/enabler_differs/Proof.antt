@@ -4,9 +4,9 @@ use mathlib.Core.List.{List}
 use Prim.Native.Nat.{ℕ}
 use borrow.Author.Needs.{needs}
 use Rattle.format.specs.Layout.{nodeOf}
 use Rattle.rules.specs.Outcomes.{answerOf}
-use Rattle.container.proofs.answers.enabler_differs.Statement.{statement}
-use Rattle.container.proofs.answers.enabler_differs.Tie as tie
+use Rattle.rules.proofs.answers.enabler_differs.Statement.{statement}
+use Rattle.rules.proofs.answers.enabler_differs.Tie as tie
 
 slice-aggregate-copy : tie.Need-slice-aggregate-copy
 slice-aggregate-copy c = search needs

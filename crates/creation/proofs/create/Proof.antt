@@ -7,10 +7,10 @@ use borrow.Author.Tests.{eq-eqb, ne-eqb}
 use Rattle.format.specs.Layout.{nodeSize, secretSize}
 use Rattle.format.specs.Container.{lengthAllowed}
 use Rattle.format.proofs.JudgingLaws.{length-true, too-short, too-long}
-use Rattle.container.proofs.FreshLaws.{create-length, create-lengths, create-magic, create-done}
+use Rattle.creation.proofs.FreshLaws.{create-length, create-lengths, create-magic, create-done}
 use borrow.Author.Needs.{needs}
-use Rattle.container.proofs.creation.create.Statement.{statement}
-use Rattle.container.proofs.creation.create.Tie as tie
+use Rattle.creation.proofs.create.Statement.{statement}
+use Rattle.creation.proofs.create.Tie as tie
 
 -- past the tests of the length
 allowed : (c : tie.Else2) → let s = c .before .before .before .before .before in lengthAllowed (s .args .c .now) ≡ true

@@ -1,0 +1,2 @@
+-- Laws of a fresh container.
+pub mod FreshLaws
