@@ -5,6 +5,8 @@ ghost use Rattle.rules.specs.Outcomes.{answered, containerAfter, replyAfter};
 use crate::reading::read;
 use format::judging::Judged;
 use format::layout::Frame;
+use format::layout::RECORD_SIZE;
+use format::layout::SECRET_SIZE;
 use leases::operations::add_lease;
 use leases::operations::cancel_lease;
 use leases::operations::renew_lease;
@@ -24,16 +26,18 @@ fn apply_formed(c: &mut [u8], frame: Frame, q: &[u8], r: &mut [u8]) -> Answer
         Form::Broken => answer(3, 0),
         Form::TestWrite(t) => test_and_write(c, frame, q, t, r),
         Form::Add(lease) => {
-            let whole = lease.whole;
-            let renewal = lease.renewal;
+            let whole = lease.whole.body(q, RECORD_SIZE);
+            let renewal = lease.renewal.body(q, SECRET_SIZE);
             let done = add_lease(c, frame, whole.bytes(q), renewal.bytes(q), lease.expiry);
             answer(done.number, done.count)
         }
-        Form::Renew(token, expiry) => {
+        Form::Renew(at, expiry) => {
+            let token = at.body(q, SECRET_SIZE);
             let done = renew_lease(c, frame, token.bytes(q), expiry);
             answer(done.number, done.count)
         }
-        Form::Cancel(token) => {
+        Form::Cancel(at) => {
+            let token = at.body(q, SECRET_SIZE);
             let done = cancel_lease(c, frame, token.bytes(q));
             answer(done.number, done.count)
         }

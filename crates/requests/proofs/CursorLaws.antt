@@ -2,7 +2,7 @@
 use mathlib.Core.Path.{_≡_, refl, ap, _∙_}
 use mathlib.Core.Bool.{Bool, true, false, true≢false}
 use mathlib.Core.List.{List}
-use Prim.Native.Nat.{ℕ, suc, _+_, _-_, _^_, _<_}
+use Prim.Native.Nat.{ℕ, suc, _+_, _-_, _^_, _<_, _≤_}
 use native.Mathlib.Omega.{arith}
 use native.Mathlib.Nat.{not-suc-le-zero}
 use lib.Dec.{T, ltb}
@@ -15,6 +15,7 @@ use mir.Val.{sel, bits, hbits, toZ, ofZ, Fits, SFits}
 use mir.ValLaws.{toZ-ofZ, toZ-fits}
 use borrow.Author.Tests.{ltb-true}
 use Rattle.requests.specs.declared.offsets.Resolved.{Resolved}
+use Rattle.requests.specs.declared.cursors.Cursor.{Cursor}
 use Rattle.requests.specs.declared.cursors.Body.{Body}
 use Rattle.requests.specs.declared.cursors.Entry.{Entry}
 use Rattle.requests.specs.Offsets.{resolvedOf}
@@ -24,8 +25,8 @@ use Rattle.octets.specs.Facts.{Octets}
 use Rattle.octets.specs.Numbers.{numberAt, signed}
 use Rattle.octets.proofs.NumberLaws.{numberAt-below}
 use Rattle.rules.specs.Requests.{entrySpecimen, entryCount, entryOffset, paddingAt}
-use Rattle.requests.specs.Forms.{BodyIn}
-use Rattle.requests.specs.Cursors.{bodyOf, entryAt}
+use Rattle.requests.specs.Forms.{BytesIn}
+use Rattle.requests.specs.Cursors.{bodyAt, bodyOf, bytesAt, entryAt}
 
 -- ---- an offset resolved
 below-is : (z : ℤ) (size : ℕ) → ltZ z (pos 0) ≡ true
@@ -101,8 +102,13 @@ pub position-below : (p : ℕ) (q : List ℕ) (size : ℕ) → position (entryOf
 unfolding entryOffset
 position-below p q size = signed-below (numberAt 4 p q) size
 
--- ---- bodies
-pub body-length : (q : List ℕ) (b : Body) (n : ℕ) → BodyIn q b n → length (bodyOf b q) ≡ n
-body-length q b n h =
-    length-take-le (b .to - b .from) (drop (b .from) q) (rw length-drop (omega (arith, h .size, h .fits)))
-    ∙ omega (arith, h .size)
+-- ---- bytes from a cursor on
+pub bytes-length : (q : List ℕ) (k : Cursor) (n : ℕ) → BytesIn q k n → length (bytesAt k n q) ≡ n
+bytes-length q k n h = length-take-le n (drop (k .at) q) (rw length-drop (omega (arith, h)))
+
+pub body-in : (q : List ℕ) (k : Cursor) (n : ℕ) (b : Body) → b ≡ bodyAt (k .at) n → BytesIn q k n
+    → (b .from ≤ b .to) × (b .to ≤ length q)
+body-in q k n b e h = rw e (omega arith, omega (arith, h))
+
+pub body-is : (q : List ℕ) (k : Cursor) (n : ℕ) (b : Body) → b ≡ bodyAt (k .at) n → bodyOf b q ≡ bytesAt k n q
+body-is q k n b e = let m : k .at + n - k .at ≡ n = omega arith in rw (e, m)

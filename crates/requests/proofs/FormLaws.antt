@@ -10,6 +10,7 @@ use lib.ListN.{length, take, drop, getD, length-drop}
 use lib.Seq.{take-all, drop-drop}
 use lib.Dec.{eqb}
 use borrow.Author.Tests.{eqb-true, leb-true, eq-eqb, ne-eqb, le-leb, lt-leb}
+use Rattle.requests.specs.declared.cursors.Cursor.{Cursor}
 use Rattle.requests.specs.declared.cursors.Body.{Body}
 use Rattle.requests.specs.declared.cursors.Record.{Record}
 use Rattle.requests.specs.declared.cursors.Header.{Header}
@@ -234,8 +235,7 @@ placedAt q =
       next =
           record { at = secretAt };
     })
-    (bodyAt secretAt secretSize) (record { at = writesAt q }) (record { at = specimensAt q })
-    (record { at = newDataAt q })
+    (record { at = testsAt }) (record { at = writesAt q }) (record { at = specimensAt q }) (record { at = newDataAt q })
 
 asked-placed : (q : List ℕ) → asked q (placedAt q) ≡ some (testWriteOf q)
 unfolding testWriteOf
@@ -247,7 +247,7 @@ inside-placed q f s =
     let e = f .ends in
     record {
       short = s;
-      enabler = record { size = refl; fits = omega arith };
+      enabler = omega arith;
       tests = record { wide = omega arith; narrow = omega arith; few = f .tests; inside = omega arith };
       tests-stride = refl;
       writes = record { wide = omega arith; narrow = omega arith; few = f .writes; inside = omega arith };
@@ -256,7 +256,7 @@ inside-placed q f s =
       bodies = omega arith;
     }
 
--- What the code has found: header x, enabler e, tests t and writes w passed over, the cursor b behind the specimens.
+-- What the code has found: header x, enabler e, tests t and writes w passed over.
 pub record Found (q : List ℕ) (x : Header) (e : Body) (t : TestsPassed) (w : WritesPassed) : Type 0 where
   pub header : HeaderIs q x
   pub enabler : e ≡ bodyAt (x .next .at) secretSize
@@ -264,6 +264,9 @@ pub record Found (q : List ℕ) (x : Header) (e : Body) (t : TestsPassed) (w : W
   pub writes : w ≡ writesPassed (t .next .at) (x .writes) q
 
 module _ {q : List ℕ} {x : Header} {e : Body} {t : TestsPassed} {w : WritesPassed} (F : Found q x e t w) where
+  header-next : x .next ≡ record { at = secretAt }
+  header-next = ap (λ (p : ℕ). record { at = p }) (F .header .next)
+
   enabler-at : e ≡ bodyAt secretAt secretSize
   enabler-at = F .enabler ∙ rw (F .header .next)
 
@@ -285,11 +288,12 @@ module _ {q : List ℕ} {x : Header} {e : Body} {t : TestsPassed} {w : WritesPas
   pub entries-at : t .good ≡ allFrom (testEntryOk q) testSize (testCount q) testsAt
   entries-at = ap (λ (y : TestsPassed). y .good) tests-at
 
-  placed-is : (b : Body) → b ≡ bodyAt (w .next .at) (t .length) → partedAs x e (t .next) (w .next) (b .next)
+  placed-is : (b : Body) → b ≡ bodyAt (w .next .at) (t .length) → partedAs x (e .next) (t .next) (w .next) (b .next)
       ≡ placedAt q
   unfolding writesAt specimensAt newDataAt
   placed-is b k = rw (
     k,
+    header-next,
     enabler-at,
     tests-at,
     writes-at,
@@ -300,7 +304,7 @@ module _ {q : List ℕ} {x : Header} {e : Body} {t : TestsPassed} {w : WritesPas
   )
 
   pub taken : (b : Body) (r : Form) → b ≡ bodyAt (w .next .at) (t .length) → r
-      ≡ partedAs x e (t .next) (w .next) (b .next)
+      ≡ partedAs x (e .next) (t .next) (w .next) (b .next)
       → TableFacts q → length q ≤ requestLimit → Takes q (byKind 1 q) r
   unfolding byKind isSome
   taken b r k e f s =
@@ -401,8 +405,8 @@ add-taken q x l h e =
       number = rw (eq-eqb _ _ l, o);
       asks = rw (eq-eqb _ _ l, o, r);
       inside = record {
-        whole = record { size = refl; fits = omega arith };
-        renewal = record { size = refl; fits = omega arith };
+        whole = omega arith;
+        renewal = omega arith;
         owned = rw r o;
         renewal-is = rw r (renewal-here q);
         expiry-is = rw r (expiry-here q);
@@ -413,30 +417,24 @@ pub renew-length : (q : List ℕ) → (length q ≡ 1 + secretSize + 4 → ⊥) 
 unfolding byKind renewOk
 renew-length q h = takes-broken q _ (rw (ne-eqb _ _ h))
 
-pub renew-taken : (q : List ℕ) (b : Body) (x : ℕ) → length q ≡ 1 + secretSize + 4 → b ≡ bodyAt 1 secretSize
-    → x ≡ numberAt 4 (1 + secretSize) q → Takes q (byKind 3 q) (Renew b x)
+pub renew-taken : (q : List ℕ) (p x : ℕ) → length q ≡ 1 + secretSize + 4 → p ≡ 1
+    → x ≡ numberAt 4 (1 + secretSize) q → Takes q (byKind 3 q) (Renew (record { at = p }) x)
 unfolding byKind renewOk isSome
-renew-taken q b x l e f =
-    rw (e, f)
-    (record {
-      number = rw (eq-eqb _ _ l);
-      asks = rw (eq-eqb _ _ l);
-      inside =
-          record { size = refl; fits = omega arith };
-    })
+renew-taken q p x l e f =
+    rw (e, f) (record { number = rw (eq-eqb _ _ l); asks = rw (eq-eqb _ _ l); inside = omega arith })
 
 pub cancel-length : (q : List ℕ) → (length q ≡ 1 + secretSize → ⊥) → Takes q (byKind 4 q) Broken
 unfolding byKind cancelOk
 cancel-length q h = takes-broken q _ (rw (ne-eqb _ _ h))
 
-pub cancel-taken : (q : List ℕ) (b : Body) → length q ≡ 1 + secretSize → b ≡ bodyAt 1 secretSize
-    → Takes q (byKind 4 q) (Cancel b)
+pub cancel-taken : (q : List ℕ) (p : ℕ) → length q ≡ 1 + secretSize → p ≡ 1
+    → Takes q (byKind 4 q) (Cancel (record { at = p }))
 unfolding byKind cancelOk isSome
-cancel-taken q b l e =
+cancel-taken q p l e =
     rw e (record {
       number = rw (eq-eqb _ _ l);
       asks = rw (eq-eqb _ _ l, rest-is q secretSize l);
-      inside = record { size = refl; fits = omega arith };
+      inside = omega arith;
     })
 
 -- ---- by the first byte

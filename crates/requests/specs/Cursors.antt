@@ -3,9 +3,10 @@ use Prim.Native.Nat.{ℕ, _+_, _-_}
 use mathlib.Core.List.{List}
 use lib.ListN.{getD, take, drop}
 use Rattle.octets.specs.Numbers.{numberAt}
-use Rattle.format.specs.Layout.{expiryAt, renewalAt, secretSize, recordSize}
+use Rattle.format.specs.Layout.{expiryAt, renewalAt, recordSize}
 use Rattle.rules.specs.Requests.{paddingAt, testSize, entryOffset, entryCount, entryOpcode, entrySpecimen}
 use Rattle.rules.specs.Requests.{secretAt, readsAt}
+use Rattle.requests.specs.declared.cursors.Cursor.{Cursor}
 use Rattle.requests.specs.declared.cursors.Byte.{Byte}
 use Rattle.requests.specs.declared.cursors.Number.{Number}
 use Rattle.requests.specs.declared.cursors.Body.{Body}
@@ -28,13 +29,17 @@ bodyAt p n = record { from = p; to = p + n; next = record { at = p + n } }
 abbrev pub bodyOf : Body → List ℕ → List ℕ
 bodyOf b q = take (b .to - b .from) (drop (b .from) q)
 
--- A lease record: owner, expiry and renewal token, and the record as a whole.
+-- The n bytes from a cursor on.
+abbrev pub bytesAt : Cursor → ℕ → List ℕ → List ℕ
+bytesAt k n q = take n (drop (k .at) q)
+
+-- A lease record: owner, expiry, and where renewal token and the record as a whole stand.
 abbrev pub recordAt : ℕ → List ℕ → Record
 recordAt p q = record {
   owner = numberAt 4 p q;
   expiry = numberAt 4 (p + expiryAt) q;
-  renewal = bodyAt (p + renewalAt) secretSize;
-  whole = bodyAt p recordSize;
+  renewal = record { at = p + renewalAt };
+  whole = record { at = p };
   next = record { at = p + recordSize };
 }
 

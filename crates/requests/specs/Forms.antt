@@ -13,9 +13,8 @@ use Rattle.format.specs.Container.{held}
 use Rattle.rules.specs.Requests.{Test, Write, Request, testWrite, add, renew, cancel, read, requestLimit}
 use Rattle.rules.specs.Requests.{entryLimit, entrySize, testSize, entryCount, entrySpecimen, testEntryOk, allFrom}
 use Rattle.rules.specs.Requests.{sumFrom, testsFrom, writesFrom, readsFrom}
-use Rattle.requests.specs.Cursors.{bodyOf}
+use Rattle.requests.specs.Cursors.{bytesAt}
 use Rattle.requests.specs.declared.cursors.Cursor.{Cursor}
-use Rattle.requests.specs.declared.cursors.Body.{Body}
 use Rattle.requests.specs.declared.cursors.Record.{Record}
 use Rattle.requests.specs.declared.cursors.Header.{Header}
 use Rattle.requests.specs.declared.forms.Table.{Table}
@@ -33,8 +32,8 @@ abbrev pub formNumber : Form → ℕ
 formNumber Broken = 3
 formNumber (TestWrite t) = 0
 formNumber (Add r) = 0
-formNumber (Renew b x) = 0
-formNumber (Cancel b) = 0
+formNumber (Renew k x) = 0
+formNumber (Cancel k) = 0
 formNumber (ReadForm t) = 0
 
 -- The parts of a test-and-write, and the reads of a table.
@@ -48,7 +47,7 @@ abbrev pub cutIn : Cut → Option ℕ
 cutIn c = cond (c .set) (some (c .length)) none
 
 abbrev pub writeIn : Parted → List ℕ → Request
-writeIn t q = testWrite (bodyOf (t .enabler) q) (testsIn t q) (writesIn t q) (cutIn (t .cut))
+writeIn t q = testWrite (bytesAt (t .enabler) secretSize q) (testsIn t q) (writesIn t q) (cutIn (t .cut))
 
 abbrev pub readIn : Table → List ℕ → Request
 readIn t q = read (readsFrom (t .count) (t .first .at) q)
@@ -57,16 +56,15 @@ readIn t q = read (readsFrom (t .count) (t .first .at) q)
 abbrev pub asked : List ℕ → Form → Option Request
 asked q Broken = none
 asked q (TestWrite t) = some (writeIn t q)
-asked q (Add r) = some (add (bodyOf (r .whole) q))
-asked q (Renew b x) = some (renew (bodyOf b q) x)
-asked q (Cancel b) = some (cancel (bodyOf b q))
+asked q (Add r) = some (add (bytesAt (r .whole) recordSize q))
+asked q (Renew k x) = some (renew (bytesAt k secretSize q) x)
+asked q (Cancel k) = some (cancel (bytesAt k secretSize q))
 asked q (ReadForm t) = some (readIn t q)
 
 -- ---- inside the request
--- A body of n bytes.
-pub record BodyIn (q : List ℕ) (b : Body) (n : ℕ) : Type 0 where
-  pub size : b .from + n ≡ b .to
-  pub fits : b .to ≤ length q
+-- The n bytes from a cursor on.
+abbrev pub BytesIn : List ℕ → Cursor → ℕ → Type 0
+BytesIn q k n = k .at + n ≤ length q
 
 -- A table of tests, writes or reads.
 pub record TableIn (q : List ℕ) (t : Table) : Type 0 where
@@ -78,7 +76,7 @@ pub record TableIn (q : List ℕ) (t : Table) : Type 0 where
 -- A test-and-write's parts.
 pub record PartedIn (q : List ℕ) (t : Parted) : Type 0 where
   pub short : length q ≤ requestLimit
-  pub enabler : BodyIn q (t .enabler) secretSize
+  pub enabler : BytesIn q (t .enabler) secretSize
   pub tests : TableIn q (t .tests)
   pub tests-stride : t .tests .stride ≡ testSize
   pub writes : TableIn q (t .writes)
@@ -90,19 +88,19 @@ pub record PartedIn (q : List ℕ) (t : Parted) : Type 0 where
 
 -- A lease record that has an owner, and its fields.
 pub record RecordIn (q : List ℕ) (r : Record) : Type 0 where
-  pub whole : BodyIn q (r .whole) recordSize
-  pub renewal : BodyIn q (r .renewal) secretSize
-  pub owned : held (bodyOf (r .whole) q) ≡ true
-  pub renewal-is : bodyOf (r .renewal) q ≡ renewalOf (bodyOf (r .whole) q)
-  pub expiry-is : r .expiry ≡ expiryOf (bodyOf (r .whole) q)
+  pub whole : BytesIn q (r .whole) recordSize
+  pub renewal : BytesIn q (r .renewal) secretSize
+  pub owned : held (bytesAt (r .whole) recordSize q) ≡ true
+  pub renewal-is : bytesAt (r .renewal) secretSize q ≡ renewalOf (bytesAt (r .whole) recordSize q)
+  pub expiry-is : r .expiry ≡ expiryOf (bytesAt (r .whole) recordSize q)
 
 -- What a form names lies inside the request.
 abbrev pub Inside : List ℕ → Form → Type 0
 Inside q Broken = Unit {0}
 Inside q (TestWrite t) = PartedIn q t
 Inside q (Add r) = RecordIn q r
-Inside q (Renew b x) = BodyIn q b secretSize
-Inside q (Cancel b) = BodyIn q b secretSize
+Inside q (Renew k x) = BytesIn q k secretSize
+Inside q (Cancel k) = BytesIn q k secretSize
 Inside q (ReadForm t) = TableIn q t × (t .stride ≡ entrySize)
 
 -- The form r of the bytes q stands for the request w, if any.
@@ -124,11 +122,11 @@ abbrev pub writesPassed : ℕ → ℕ → List ℕ → WritesPassed
 writesPassed p n q =
     record { length = sumFrom (λ i. entryCount i q) entrySize n p; next = record { at = p + entrySize * n } }
 
--- The form of parts that have been found: tests begin behind the enabler.
-abbrev pub partedAs : Header → Body → Cursor → Cursor → Cursor → Form
-partedAs h e ws ss bs = TestWrite (record {
-  enabler = e;
-  tests = record { first = e .next; count = h .tests; stride = testSize };
+-- The form of parts that have been found: the enabler stands behind the header.
+abbrev pub partedAs : Header → Cursor → Cursor → Cursor → Cursor → Form
+partedAs h ts ws ss bs = TestWrite (record {
+  enabler = h .next;
+  tests = record { first = ts; count = h .tests; stride = testSize };
   writes = record { first = ws; count = h .writes; stride = entrySize };
   specimens = ss;
   bodies = bs;

@@ -8,7 +8,6 @@ ghost use Rattle.rules.specs.Requests.{entrySize, testSize};
 ghost use Rattle.requests.specs.Cursors.{byteAt, numberIn, bodyAt, bodyOf, recordAt, entryAt, testAt, headerAt};
 ghost use Rattle.requests.specs.Cursors.{readHeaderAt, headerSize, readHeaderSize};
 use format::layout::RECORD_SIZE;
-use format::layout::SECRET_SIZE;
 
 // An entry of a table: offset 4, length 4.
 pub const ENTRY_SIZE: usize = 8;
@@ -79,12 +78,12 @@ pub(crate) struct ReadHeader {
     pub(crate) next: Cursor,
 }
 
-// A lease record as a whole, and of its fields those that an add asks for.
+// Where a lease record stands, and of its fields those that an add asks for.
 pub struct Record {
     pub owner: u32,
     pub expiry: u32,
-    pub renewal: Body,
-    pub whole: Body,
+    pub renewal: Cursor,
+    pub whole: Cursor,
     pub next: Cursor,
 }
 
@@ -151,14 +150,13 @@ impl Cursor {
     {
         let owner = self.number(q);
         let expiry = owner.next.number(q);
-        let renewal = expiry.next.body(q, SECRET_SIZE);
-        let whole = self.body(q, RECORD_SIZE);
-        let next = whole.next;
+        let renewal = expiry.next;
+        let next = self.body(q, RECORD_SIZE).next;
         Record {
             owner: owner.value,
             expiry: expiry.value,
             renewal: renewal,
-            whole: whole,
+            whole: self,
             next: next,
         }
     }

@@ -5,7 +5,6 @@ ghost use lib.ListN.{length};
 ghost use Rattle.rules.specs.Requests.{requestLimit, entryLimit, entrySize, testSize, entryOk, cutOk, byKind};
 ghost use Rattle.rules.specs.Requests.{requestOf};
 ghost use Rattle.requests.specs.Forms.{testsPassed, writesPassed, partedAs, Takes};
-use crate::cursors::Body;
 use crate::cursors::Cursor;
 use crate::cursors::ENTRY_SIZE;
 use crate::cursors::HEADER_SIZE;
@@ -42,9 +41,10 @@ pub struct Cut {
     pub length: usize,
 }
 
-// A test-and-write taken apart: specimens and new data stand one after the other from their cursors on.
+// A test-and-write taken apart: specimens and new data stand one after the other from their cursors on. What has a
+// fixed size travels as a cursor alone, here and in `Form`: its reader names the size, and so the compiler knows it.
 pub struct Parted {
-    pub enabler: Body,
+    pub enabler: Cursor,
     pub tests: Table,
     pub writes: Table,
     pub specimens: Cursor,
@@ -56,8 +56,8 @@ pub enum Form {
     Broken,
     TestWrite(Parted),
     Add(Record),
-    Renew(Body, u32),
-    Cancel(Body),
+    Renew(Cursor, u32),
+    Cancel(Cursor),
     Read(Table),
 }
 
@@ -140,10 +140,10 @@ fn cut_ok(flag: usize, new: usize) -> bool
 }
 
 // A test-and-write whose parts have been found.
-fn found(header: Header, enabler: Body, writes: Cursor, specimens: Cursor, bodies: Cursor) -> Form
-    ensures { λ r. ⌜ r ≡ partedAs header enabler writes specimens bodies ⌝ }
+fn found(header: Header, tests: Cursor, writes: Cursor, specimens: Cursor, bodies: Cursor) -> Form
+    ensures { λ r. ⌜ r ≡ partedAs header tests writes specimens bodies ⌝ }
 {
-    let tests = enabler.next;
+    let enabler = header.next;
     let count = header.tests;
     Form::TestWrite(Parted {
         enabler: enabler,
@@ -190,18 +190,18 @@ fn test_write_form(q: &[u8], at: Cursor) -> Form
     if n < TESTS_AT + TEST_SIZE * tests + ENTRY_SIZE * writes {
         return Form::Broken;
     }
-    let enabler = header.next.body(q, SECRET_SIZE);
-    let tested = pass_tests(q, enabler.next, tests);
+    let first = header.next.body(q, SECRET_SIZE).next;
+    let tested = pass_tests(q, first, tests);
+    let written = pass_writes(q, tested.next, writes);
     if !tested.good {
         return Form::Broken;
     }
-    let written = pass_writes(q, tested.next, writes);
     let specimens = written.next;
     if specimens.at + tested.length + written.length != n {
         return Form::Broken;
     }
     let bodies = specimens.body(q, tested.length).next;
-    found(header, enabler, tested.next, specimens, bodies)
+    found(header, first, tested.next, specimens, bodies)
 }
 
 // Kind 5, after its kind.
@@ -259,7 +259,7 @@ fn renew_form(q: &[u8], at: Cursor) -> Form
         return Form::Broken;
     }
     let token = at.body(q, SECRET_SIZE);
-    Form::Renew(token, token.next.number(q).value)
+    Form::Renew(at, token.next.number(q).value)
 }
 
 // Kind 4, after its kind: a token.
@@ -270,7 +270,7 @@ fn cancel_form(q: &[u8], at: Cursor) -> Form
     if q.len() != 1 + SECRET_SIZE {
         return Form::Broken;
     }
-    Form::Cancel(at.body(q, SECRET_SIZE))
+    Form::Cancel(at)
 }
 
 // By the first byte. The empty request and an unknown kind are broken.

@@ -21,7 +21,7 @@ use Rattle.rules.specs.Outcomes.{after, replyTo, rows, admitRows}
 use Rattle.rules.specs.Outcomes.{withBytes, findRows, roomRows}
 use Rattle.requests.specs.Forms.{cutIn, PartedIn, writeIn, testsIn, writesIn}
 use Rattle.rules.specs.Sizes.{cutSize, finalSize, sizeAll}
-use Rattle.format.specs.Layout.{dataOf, usedLength, enablerOf}
+use Rattle.format.specs.Layout.{secretSize, dataOf, usedLength, enablerOf}
 use Rattle.octets.specs.Lists.{every}
 use Rattle.rules.specs.Writing.{grow, rewritten, placed, writesResolve}
 use Rattle.format.specs.Parts.{partsOf, used, Parts, extras}
@@ -33,7 +33,7 @@ use Rattle.rules.proofs.Kept.{after-valid}
 use Rattle.rules.proofs.WriteLaws.{length-cutTo, length-writeAll}
 use Rattle.octets.specs.Strings.{same}
 use Rattle.replies.proofs.PieceLaws.{test-pieces, test-resolve}
-use Rattle.requests.specs.Cursors.{bodyOf}
+use Rattle.requests.specs.Cursors.{bytesAt}
 use Rattle.format.proofs.RoundTrip.{parts-valid}
 use Rattle.requests.proofs.CursorLaws.{position-below}
 use Rattle.writes.specs.Sizes.{reachedBy}
@@ -133,7 +133,8 @@ module _ {c q d : List ℕ} {f : Frame} {t : Parted} {m : Measured} {x : Reached
   -- The three groups of rows, as the code judges them.
   module _ (space : ℕ) where
     abbrev pub admits : List Row
-    admits = row 4 (not (m .resolves && x .resolves)) ∷ row 5 (not (same (bodyOf (t .enabler) q) (enablerOf c))) ∷ []
+    admits = row 4 (not (m .resolves && x .resolves))
+        ∷ row 5 (not (same (bytesAt (t .enabler) secretSize q) (enablerOf c))) ∷ []
 
     abbrev pub finds : List Row
     finds = row 7 (ltb space (m .length)) ∷ row 8 (not (every (holds d) (testsIn t q))) ∷ []

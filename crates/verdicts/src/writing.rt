@@ -14,14 +14,15 @@ ghost use Rattle.format.specs.Parts.{partsOf, encode};
 ghost use Rattle.format.specs.Judging.{Known};
 ghost use Rattle.rules.specs.Testing.{holds};
 ghost use Rattle.rules.specs.Outcomes.{after, replies, answered, containerAfter, replyAfter};
-ghost use Rattle.requests.specs.Cursors.{bodyOf};
-ghost use Rattle.requests.specs.Forms.{BodyIn, PartedIn, testsIn, writeIn};
+ghost use Rattle.requests.specs.Cursors.{bytesAt};
+ghost use Rattle.requests.specs.Forms.{BytesIn, PartedIn, testsIn, writeIn};
 ghost use Rattle.verdicts.specs.Writing.{verdictOf, Decided, WriteRequest};
 use format::layout::DATA_AT;
 use format::layout::ENABLER_AT;
 use format::layout::Frame;
+use format::layout::SECRET_SIZE;
 use format::layout::SIZE_AT;
-use requests::cursors::Body;
+use requests::cursors::Cursor;
 use requests::forms::Parted;
 use rules::Answer;
 use rules::answers::answer;
@@ -35,15 +36,16 @@ pub struct Verdict {
 }
 
 // Rows 4 and 5, where it is known whether every offset resolves.
-fn admit(c: &[u8], q: &[u8], enabler: Body, resolves: bool) -> u32
-    requires { ⌜ (least ≤ length (now c)) × BodyIn (now q) enabler secretSize ⌝ }
+fn admit(c: &[u8], q: &[u8], enabler: Cursor, resolves: bool) -> u32
+    requires { ⌜ (least ≤ length (now c)) × BytesIn (now q) enabler secretSize ⌝ }
     ensures { λ r. ⌜ r ≡ firstRow (row 4 (not resolves)
-        ∷ row 5 (not (same (bodyOf enabler (now (q .entry))) (enablerOf (now (c .entry))))) ∷ []) ⌝ }
+        ∷ row 5 (not (same (bytesAt enabler secretSize (now (q .entry))) (enablerOf (now (c .entry))))) ∷ []) ⌝ }
 {
     if !resolves {
         return 4;
     }
-    if !octets::strings::same(enabler.bytes(q), &c[ENABLER_AT..SIZE_AT]) {
+    let sent = enabler.body(q, SECRET_SIZE);
+    if !octets::strings::same(sent.bytes(q), &c[ENABLER_AT..SIZE_AT]) {
         return 5;
     }
     0

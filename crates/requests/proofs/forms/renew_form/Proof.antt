@@ -34,7 +34,7 @@ returns-2 : tie.Need-returns-2
 returns-2 c =
     let q = c .before .before .before .before .args .q .now in
     let e = ap (λ (b : Body). b .next .at) (token (c .before)) in
-    renew-taken _ _ _ (c .before .before .if1 .left) (token (c .before))
+    renew-taken _ _ _ (c .before .before .if1 .left) (c .before .before .before .before .pre)
     (ap (λ (x : Number). x .value) (c .number .ensures) ∙ ap (λ (p : ℕ). numberAt 4 p q) e)
 
 pub renew-form-spec : {M : Type 1} → statement M

@@ -31,39 +31,40 @@ enabler-next c = ap (λ (b : Body). b .next .at) (c .body .ensures)
     ∙ rw (header (c .before .before .before .before .before .before) .next)
 
 tests-next : (c : tie.After-pass-tests) → c .pass-tests .result .next .at
-    ≡ writesAt (c .before .before .before .before .before .before .before .before .before .before .args .q .now)
+    ≡ writesAt (c .before .before .before .before .before .before .before .before .before .before .before .args .q .now)
 unfolding writesAt
 tests-next c = ap (λ (t : TestsPassed). t .next .at) (c .pass-tests .ensures)
-    ∙ rw (enabler-next (c .before), header (c .before .before .before .before .before .before .before) .tests)
+    ∙ rw (
+      enabler-next (c .before .before),
+      header (c .before .before .before .before .before .before .before .before)
+          .tests,
+    )
 
 found : (c : tie.After-pass-writes)
-    → Found (c .before .before .before .before .before .before .before .before .before .before .before .before .before
-    .args .q .now) (c .before .before .before .before .before .before .before .before .before .before .header .result)
-    (c .before .before .before .before .body .result) (c .before .before .before .pass-tests .result)
-    (c .pass-writes .result)
+    → Found
+    (c .before .before .before .before .before .before .before .before .before .before .before .before .args .q .now)
+    (c .before .before .before .before .before .before .before .before .before .header .result)
+    (c .before .before .before .body .result) (c .before .pass-tests .result) (c .pass-writes .result)
 found c = record {
-  header = header (c .before .before .before .before .before .before .before .before .before .before);
-  enabler = c .before .before .before .before .body .ensures;
-  tests = c .before .before .before .pass-tests .ensures;
+  header = header (c .before .before .before .before .before .before .before .before .before);
+  enabler = c .before .before .before .body .ensures;
+  tests = c .before .pass-tests .ensures;
   writes = c .pass-writes .ensures;
 }
 
 octets : (c : tie.After-pass-writes)
-    → Octets (c .before .before .before .before .before .before .before .before .before .before .before .before .before
-    .args .q .now)
+    → Octets
+    (c .before .before .before .before .before .before .before .before .before .before .before .before .args .q .now)
 octets c =
-    λ i. omega (
-      arith,
-      c .before .before .before .before .before .before .before .before .before .before .before .before
-          .shared-slice-known .given i,
-    )
+    let k = c .before .before .before .before .before .before .before .before .before .before .before in
+    λ i. omega (arith, k .shared-slice-known .given i)
 
-small : (c : tie.After-pass-writes) → (c .before .before .before .pass-tests .result .length ≤ 65536 * entryLimit)
+small : (c : tie.After-pass-writes) → (c .before .pass-tests .result .length ≤ 65536 * entryLimit)
     × (c .pass-writes .result .length ≤ 4294967296 * entryLimit)
 small c =
-    let q = c .before .before .before .before .before .before .before .before .before .before .before .before .before
-    .args .q .now in
-    let x = header (c .before .before .before .before .before .before .before .before .before .before) in
+    let q = c .before .before .before .before .before .before .before .before .before .before .before .before .args .q
+    .now in
+    let x = header (c .before .before .before .before .before .before .before .before .before) in
     let t = ap (λ (y : TestsPassed). y .length) (tests-at (found c)) in
     let w = ap (λ (y : WritesPassed). y .length) (writes-at (found c)) in (
       omega (arith, specimens-most q (octets c) (testCount q) testsAt),
@@ -114,49 +115,44 @@ body-requires : tie.Need-body-requires
 body-requires c κs = let x = header (c .before .before .before .before .before) in omega arith
 
 pass-tests-requires : tie.Need-pass-tests-requires
-pass-tests-requires c κs = let x = header (c .before .before .before .before .before .before) in
-    (omega (arith, enabler-next c), omega arith)
-
-returns-6 : tie.Need-returns-6
-returns-6 c =
-    let e = rw (
-      enabler-next (c .before .before .before),
-      header (c .before .before .before .before .before .before .before .before .before) .tests,
-    ) at
-    (ap (λ (t : TestsPassed). t .good) (c .before .before .pass-tests .ensures)) in
-    no-table _ (λ h. false≢true (sym (not-true _ (c .if6 .taken)) ∙ e ∙ h .entries))
+pass-tests-requires c κs =
+    let x = header (c .before .before .before .before .before .before .before) in
+    (omega (arith, enabler-next (c .before)), omega arith)
 
 pass-writes-requires : tie.Need-pass-writes-requires
 pass-writes-requires c κs =
-    let x = header (c .before .before .before .before .before .before .before .before .before) in
-    let m = table-places
-    (c .before .before .before .before .before .before .before .before .before .before .before .before .args .q
-    .now) in
-    (omega (arith, tests-next (c .before .before)), omega arith)
+    let x = header (c .before .before .before .before .before .before .before .before) in
+    let q = c .before .before .before .before .before .before .before .before .before .before .before .args .q .now in
+    let m = table-places q in
+    (omega (arith, tests-next c), omega arith)
+
+returns-6 : tie.Need-returns-6
+returns-6 c =
+    let e = entries-at (found (c .before .before)) in
+    no-table _ (λ h. false≢true (sym (not-true _ (c .if6 .taken)) ∙ e ∙ h .entries))
 
 add-if7 : tie.Need-add-if7
-add-if7 c = let m =
-    table-places
-    (c .before .before .before .before .before .before .before .before .before .before .before .before .before .before
-    .before .before .args .q .now) in let x =
-    header (c .before .before .before .before .before .before .before .before .before .before .before .before .before)
-    in omega (arith, specimens-at (found (c .before .before .before)), small (c .before .before .before))
+add-if7 c =
+    let w = c .before .before .before .before .before in
+    let q = w .before .before .before .before .before .before .before .before .before .before .before .before .args .q
+    .now in
+    let x = header (w .before .before .before .before .before .before .before .before .before) in
+    let m = table-places q in
+    omega (arith, specimens-at (found w), small w)
 
 add-if7-2 : tie.Need-add-if7-2
-add-if7-2 c = let m =
-    table-places
-    (c .before .before .before .before .before .before .before .before .before .before .before .before .before .before
-    .before .before .before .args .q .now) in let x =
-    header (c .before .before .before .before .before .before .before .before .before .before .before .before .before
-    .before) in omega (
-      arith,
-      specimens-at (found (c .before .before .before .before)),
-      small (c .before .before .before .before),
-    )
+add-if7-2 c =
+    let w = c .before .before .before .before .before .before in
+    let q = w .before .before .before .before .before .before .before .before .before .before .before .before .args .q
+    .now in
+    let x = header (w .before .before .before .before .before .before .before .before .before) in
+    let m = table-places q in
+    omega (arith, specimens-at (found w), small w)
 
 returns-7 : tie.Need-returns-7
-returns-7 c = no-table _ (λ h. c .if7 .taken (sym (ends-at (found (c .before .before .before .before .before)))
-    ∙ h .ends))
+returns-7 c =
+    let e = ends-at (found (c .before .before .before .before .before .before .before)) in
+    no-table _ (λ h. c .if7 .taken (sym e ∙ h .ends))
 
 body-requires-2 : tie.Need-body-requires-2
 body-requires-2 c κs = search needs
@@ -166,36 +162,20 @@ found-requires c κs = search needs
 
 returns-8 : tie.Need-returns-8
 returns-8 c =
-    let F = found (c .before .before .before .before .before .before .before .before) in
-    let x = header
-    (c .before .before .before .before .before .before .before .before .before .before .before .before .before
-    .before .before .before .before .before) in
+    let w = c .before .before .before .before .before .before .before .before .before .before in
+    let k = w .before .before .before .before .before .before in
+    let F = found w in
+    let x = header (k .before .before .before) in
     taken F _ _ (c .before .before .body2 .ensures) (c .found .ensures)
     (record {
-      tests = omega (
-        arith,
-        c .before .before .before .before .before .before .before .before .before .before .before .before .before
-            .before .before .before .before .if2 .left,
-        x .tests,
-      );
-      writes = omega (
-        arith,
-        c .before .before .before .before .before .before .before .before .before .before .before .before .before
-            .before .before .before .if3 .left,
-        x .writes,
-      );
-      cut = sym
-          (cut (c .before .before .before .before .before .before .before .before .before .before .before .before
-          .before .before .before))
-          ∙ not-false _
-          (c .before .before .before .before .before .before .before .before .before .before .before .before .before
-          .before .if4 .left);
+      tests = omega (arith, k .before .before .if2 .left, x .tests);
+      writes = omega (arith, k .before .if3 .left, x .writes);
+      cut = sym (cut k) ∙ not-false _ (w .before .before .before .before .before .if4 .left);
       ends = ends-at F ∙ c .before .before .before .if7 .left;
-      entries = sym (entries-at F)
-          ∙ not-false _ (c .before .before .before .before .before .before .before .before .before .if6 .left);
+      entries = sym (entries-at F) ∙ not-false _
+          (c .before .before .before .before .before .before .before .before .if6 .left);
     })
-    (c .before .before .before .before .before .before .before .before .before .before .before .before .before .before
-    .before .before .before .before .before .before .before .pre .1)
+    (k .before .before .before .before .before .before .pre .1)
 
 pub test-write-form-spec : {M : Type 1} → statement M
 test-write-form-spec =
@@ -214,8 +194,8 @@ test-write-form-spec =
     returns-5
     body-requires
     pass-tests-requires
-    returns-6
     pass-writes-requires
+    returns-6
     add-if7
     add-if7-2
     returns-7

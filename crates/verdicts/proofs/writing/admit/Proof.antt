@@ -1,5 +1,4 @@
 -- Each exit is the first row that applies.
--- What the comparison of the two enablers says.
 use mathlib.Core.Path.{_≡_, sym, ap, _∙_}
 use mathlib.Core.List.{List}
 use Prim.Native.Nat.{ℕ}
@@ -8,28 +7,41 @@ use lib.ListN.{length, length-take, length-drop}
 use borrow.Author.Tests.{not-true, not-false}
 use Rattle.octets.specs.Rows.{firstRow}
 use Rattle.octets.specs.Strings.{same}
-use Rattle.format.specs.Layout.{enablerOf}
-use Rattle.requests.specs.Cursors.{bodyOf}
-use Rattle.requests.proofs.CursorLaws.{body-length}
+use Rattle.format.specs.Layout.{secretSize, enablerOf}
+use Rattle.requests.specs.Cursors.{bytesAt}
+use Rattle.requests.proofs.CursorLaws.{bytes-length, body-in, body-is}
 use borrow.Author.Needs.{needs}
 use Rattle.verdicts.proofs.writing.admit.Statement.{statement}
 use Rattle.verdicts.proofs.writing.admit.Tie as tie
 
+-- The enabler that was sent.
+sent : (c : tie.After-bytes) → c .bytes .result .now
+    ≡ bytesAt (c .before .before .before .before .before .args .enabler) secretSize
+    (c .before .before .before .before .before .args .q .now)
+sent c = c .bytes .ensures ∙ body-is _ _ _ _ (c .before .body .ensures)
+
+-- What the comparison of the two enablers says.
 enablers : (c : tie.After-same) → c .same .result
-    ≡ same (bodyOf (c .before .before .before .before .before .before .args .enabler)
-    (c .before .before .before .before .before .before .args .q .now))
-    (enablerOf (c .before .before .before .before .before .before .args .c .now))
+    ≡ same
+    (bytesAt (c .before .before .before .before .before .before .before .args .enabler) secretSize
+    (c .before .before .before .before .before .before .before .args .q .now))
+    (enablerOf (c .before .before .before .before .before .before .before .args .c .now))
 unfolding enablerOf
 enablers c = c .same .ensures
-    ∙ ap (λ (l : List ℕ). same l (enablerOf (c .before .before .before .before .before .before .args .c .now)))
-    (c .before .before .bytes .ensures)
+    ∙ ap (λ (l : List ℕ). same l (enablerOf (c .before .before .before .before .before .before .before .args .c .now)))
+    (sent (c .before .before))
 
 returns : tie.Need-returns
 unfolding firstRow
 returns c = sym (rw (not-true (c .before .before .before .args .resolves) (c .if1 .taken)))
 
+body-requires : tie.Need-body-requires
+body-requires c κs = search needs
+
 bytes-requires : tie.Need-bytes-requires
-bytes-requires c κs = search needs
+bytes-requires c κs =
+    let s = c .before .before .before .before in
+    body-in (s .args .q .now) (s .args .enabler) secretSize _ (c .body .ensures) (s .pre .1)
 
 sub-same : tie.Need-sub-same
 sub-same c = search needs
@@ -42,16 +54,17 @@ part-same-end c = search needs
 
 same-requires : tie.Need-same-requires
 same-requires c κs =
-    let e = ap length (c .before .bytes .ensures) in
-    let b = body-length _ _ _ (c .before .before .before .before .before .pre .1) in
-    simp (length-take, length-drop) (omega (arith, e, b, c .before .before .before .before .before .pre .0))
+    let s = c .before .before .before .before .before .before in
+    let e = ap length (sent (c .before)) in
+    let b = bytes-length (s .args .q .now) (s .args .enabler) secretSize (s .pre .1) in
+    simp (length-take, length-drop) (omega (arith, e, b, s .pre .0))
 
 returns-2 : tie.Need-returns-2
 unfolding firstRow
 returns-2 c =
     sym (rw (
-      not-false (c .before .before .before .before .before .before .before .args .resolves)
-          (c .before .before .before .before .if1 .left),
+      not-false (c .before .before .before .before .before .before .before .before .args .resolves)
+          (c .before .before .before .before .before .if1 .left),
       sym (enablers (c .before)) ∙ not-true _ (c .if2 .taken),
     ))
 
@@ -59,8 +72,8 @@ returns-3 : tie.Need-returns-3
 unfolding firstRow
 returns-3 c =
     sym (rw (
-      not-false (c .before .before .before .before .before .before .before .args .resolves)
-          (c .before .before .before .before .if1 .left),
+      not-false (c .before .before .before .before .before .before .before .before .args .resolves)
+          (c .before .before .before .before .before .if1 .left),
       sym (enablers (c .before)) ∙ not-false _ (c .if2 .left),
     ))
 
@@ -69,6 +82,7 @@ admit-spec =
     tie.close
     (tie.spec
     returns
+    body-requires
     bytes-requires
     sub-same
     part-same-start

@@ -15,25 +15,18 @@ number-requires-2 : tie.Need-number-requires-2
 number-requires-2 c κs = let e = ap (λ (x : Number). x .next .at) (c .number .ensures) in omega (arith, e)
 
 body-requires : tie.Need-body-requires
-body-requires c κs =
-    let e = ap (λ (x : Number). x .next .at) (c .before .number .ensures) in
-    let f = ap (λ (x : Number). x .next .at) (c .number2 .ensures) in
-    omega (arith, e, f)
-
-body-requires-2 : tie.Need-body-requires-2
-body-requires-2 c κs = search needs
+body-requires c κs = search needs
 
 returns : tie.Need-returns
 returns c =
     let p = c .before .before .before .before .before .before .args .self .at in
     let e : p + 4 + 4 ≡ p + renewalAt = omega arith in
     rw (
-      c .before .body2 .ensures,
-      c .before .before .body .ensures,
+      c .before .body .ensures,
       c .before .before .before .number2 .ensures,
       c .before .before .before .before .number .ensures,
       e,
     )
 
 pub lease-spec : {M : Type 1} → statement M
-lease-spec = tie.close (tie.spec number-requires number-requires-2 body-requires body-requires-2 returns)
+lease-spec = tie.close (tie.spec number-requires number-requires-2 body-requires returns)
