@@ -9,7 +9,7 @@ use Rattle.octets.specs.Facts.{Octets, Each}
 use Rattle.octets.proofs.NumberLaws.{octets-digits}
 use Rattle.octets.proofs.StringLaws.{octets-take, octets-drop, octets-append, octets-join}
 use Rattle.format.specs.Layout.{magic, nodeAt, enablerAt, leasesAt, dataAt, countAt, nodeOf, enablerOf, sizeOf}
-use Rattle.format.specs.Layout.{dataOf, extrasOf, records, leasesOf, countSize, fixedPlaces, recordSize}
+use Rattle.format.specs.Layout.{dataOf, extrasOf, records, leasesOf, fixedPlaces, recordSize}
 use Rattle.format.specs.Layout.{nodeSize, secretSize, sizeWidth, extrasAt}
 use Rattle.format.specs.Parts.{Parts, extras, used, partsOf, encode}
 use Rattle.format.specs.Claims.{OctetParts, RoundTrip}

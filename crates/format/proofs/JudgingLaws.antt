@@ -14,7 +14,7 @@ use borrow.Author.Tests.{leb-true, eq-eqb, ne-eqb, le-leb, lt-leb}
 use Rattle.octets.specs.Numbers.{number, numberAt}
 use Rattle.octets.specs.Strings.{allZero}
 use Rattle.format.specs.Layout.{least, limit, leasesAt, countAt, sizeOf, extrasOf, records, leasesOf, ownerOf}
-use Rattle.format.specs.Layout.{dataAt, extraLimit, recordSize, sizeWidth, sizeAt, fixedPlaces, countSize}
+use Rattle.format.specs.Layout.{dataAt, extraLimit, recordSize, sizeWidth, sizeAt, fixedPlaces}
 use Rattle.format.specs.Layout.{usedLength, extrasAt}
 use Rattle.format.specs.Container.{lengthAllowed, held, recordOk, lastHeld, fieldsOk, contentsOk, wellFormed}
 use Rattle.format.specs.Judging.{fieldsFound, Framed, Judges, Known, frameOf}

@@ -2,14 +2,14 @@
 -- head, data or tail keeps it. Assumes nothing.
 use mathlib.Core.Path.{_≡_, sym, ap, _∙_}
 use mathlib.Core.List.{List, _++_, append-assoc}
-use Prim.Native.Nat.{ℕ, _+_, _-_, _*_, _≤_}
+use Prim.Native.Nat.{ℕ, _+_, _-_, _≤_}
 use native.Mathlib.Omega.{arith}
 use lib.ListN.{length, replicate, length-append, length-replicate}
 use Rattle.format.specs.declared.layout.Frame.{Frame}
 use Rattle.format.specs.Parts.{frontOf, Parts, headOf, tailOf, encode, used, extras, partsOf}
 use Rattle.format.specs.View.{tailSize, Laid}
 use Rattle.format.specs.Claims.{Valid}
-use Rattle.format.specs.Layout.{leasesAt, dataAt, countSize, recordSize, dataOf}
+use Rattle.format.specs.Layout.{leasesAt, dataAt, dataOf}
 use Rattle.octets.proofs.NumberLaws.{length-digits}
 use Rattle.format.specs.Judging.{Known}
 use Rattle.octets.specs.Facts.{Octets}

@@ -11,7 +11,7 @@ use borrow.Author.Tests.{eqb-true, leb-true, eq-eqb, le-leb}
 use Rattle.octets.specs.Numbers.{numberAt}
 use Rattle.octets.specs.Strings.{allZero, same, join}
 use Rattle.format.specs.Layout.{magic, least, limit, offsetAt, leasesAt, dataAt, countAt, usedLength, sizeOf}
-use Rattle.format.specs.Layout.{dataOf, extrasOf, leasesOf, recordSize, records, fixedPlaces, countSize}
+use Rattle.format.specs.Layout.{dataOf, extrasOf, leasesOf, recordSize, records, fixedPlaces}
 use Rattle.format.specs.Layout.{nodeAt, sizeWidth, extraLimit, extrasAt}
 use Rattle.format.specs.Container.{lengthAllowed, held, recordOk, lastHeld, fieldsOk, contentsOk, wellFormed}
 use Rattle.octets.specs.Lists.{every}

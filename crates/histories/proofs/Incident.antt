@@ -17,7 +17,7 @@ use Rattle.octets.specs.Last.{lastSaid, newer}
 use Rattle.rules.specs.Testing.{resolve, position, piece}
 use Rattle.rules.specs.Writing.{Placed, placed}
 use Rattle.rules.specs.Outcomes.{createOutcome, createdContainer}
-use Rattle.histories.specs.Runs.{Call, Heard, hears, leaves, answers, final}
+use Rattle.histories.specs.Runs.{Call, hears, leaves, answers, final}
 use Rattle.rules.specs.Changes.{Change, wrote, cutAt, sizeBy, sizeAfter, says, byteAfter, cutChange, writeChanges}
 use Rattle.rules.specs.Changes.{changesOf}
 use Rattle.histories.specs.Accepted.{took, accepted}

@@ -13,9 +13,9 @@ use lib.Seq.{getD-append-add}
 use borrow.Author.Tests.{ltb-true, ltb-false, lt-ltb, le-ltb}
 use Rattle.format.specs.declared.layout.Frame.{Frame}
 use borrow.Author.Count.{below-more}
-use Rattle.format.specs.Layout.{limit, leasesAt, countAt, sizeOf, extrasOf, records, leasesOf, fixedPlaces}
+use Rattle.format.specs.Layout.{limit, leasesAt, sizeOf, extrasOf, records, leasesOf, fixedPlaces}
 use Rattle.format.specs.View.{placeAt}
-use Rattle.format.specs.Layout.{recordSize, countSize, extrasAt}
+use Rattle.format.specs.Layout.{recordSize, extrasAt}
 use Rattle.format.specs.Container.{held}
 use Rattle.format.proofs.WellFormed.{count-is, length-records, length-leases, records-add, record-at}
 use Rattle.rules.specs.Leasing.{firstOf, withLast, trim, present}

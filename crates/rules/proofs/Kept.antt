@@ -10,7 +10,7 @@ use lib.Seq.{drop-at, drop-append-le, length-take-le}
 use lib.Dec.{leb}
 use borrow.Author.Tests.{ltb-false, leb-false}
 use Rattle.format.specs.Container.{held, lastHeld}
-use Rattle.format.specs.Layout.{expiryOf, renewalOf, usedLength, countAt, countSize, fixedPlaces, leaseLimit}
+use Rattle.format.specs.Layout.{expiryOf, renewalOf, usedLength, fixedPlaces, leaseLimit}
 use Rattle.format.specs.Layout.{recordSize, extrasAt}
 use Rattle.format.specs.Parts.{Parts, used, extras, noLease}
 use Rattle.format.specs.Claims.{Place, Valid}

@@ -13,7 +13,6 @@ use Rattle.octets.proofs.MoveLaws.{lent-is, lent-back, put-put, zeros-split}
 use Rattle.octets.proofs.NumberLaws.{length-digits}
 use Rattle.format.specs.Layout.{sizeWidth, sizeAt, leasesAt, dataAt, countAt}
 use Rattle.format.specs.View.{Laid}
-use Rattle.format.proofs.WellFormed.{count-is}
 use Rattle.rules.specs.Writing.{Placed, padTo, writeAll}
 use Rattle.rules.specs.Sizes.{clip, resize}
 use Rattle.rules.proofs.WriteLaws.{length-resize, length-writeAll, size-clipped}

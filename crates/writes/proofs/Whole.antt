@@ -2,7 +2,7 @@
 use mathlib.Core.Path.{_≡_, refl, sym, ap, _∙_}
 use mathlib.Core.List.{List, _++_, map, append-assoc}
 use mathlib.Core.Option.{Option}
-use Prim.Native.Nat.{ℕ, _+_, _*_}
+use Prim.Native.Nat.{ℕ, _+_}
 use native.Mathlib.Omega.{arith}
 use lib.ListN.{length, take, drop, length-append}
 use lib.Seq.{take-at, drop-at}
@@ -10,7 +10,7 @@ use Rattle.octets.specs.Numbers.{digits}
 use Rattle.octets.specs.Strings.{join}
 use Rattle.octets.specs.Facts.{Octets}
 use Rattle.octets.proofs.NumberLaws.{length-digits}
-use Rattle.format.specs.Layout.{magic, sizeWidth, countSize, recordSize, fixedPlaces, sizeAt, leasesAt, dataAt}
+use Rattle.format.specs.Layout.{magic, sizeWidth, fixedPlaces, sizeAt, leasesAt, dataAt}
 use Rattle.format.specs.Layout.{countAt, dataOf}
 use Rattle.format.specs.Parts.{Parts, used, partsOf, frontOf, headOf, tailOf, encode}
 use Rattle.format.specs.View.{tailSize, Laid}

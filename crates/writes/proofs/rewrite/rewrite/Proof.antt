@@ -1,5 +1,5 @@
 -- The three turns of the view, one after the other, make the encoding with the data rewritten.
-use Prim.Native.Nat.{_+_, _*_, _≤_}
+use Prim.Native.Nat.{_+_, _≤_}
 use native.Mathlib.Omega.{arith}
 use lib.ListN.{length}
 use borrow.Author.Needs.{needs}
