@@ -7,47 +7,44 @@ const SAMPLES: usize = 401;
 const SAMPLE: Duration = Duration::from_micros(150);
 const WARM_UP: u32 = 200;
 
-/// Medians over all samples.
-pub struct Times {
+/// One of the things that are timed against each other.
+pub type Side<'a> = Box<dyn FnMut() + 'a>;
+
+/// Nanoseconds per call, sample by sample.
+pub struct Samples(Vec<f64>);
+
+impl Samples {
     /// Nanoseconds per call.
-    pub library: f64,
-    /// Nanoseconds per call.
-    pub rust: f64,
-    /// Library over Rust, each taken of two samples that followed each other, so that what slows
-    /// the machine for a while slows both.
-    pub ratio: f64,
+    pub fn median(&self) -> f64 {
+        median(self.0.clone())
+    }
+
+    /// How many times as long as the other side, taken of samples that followed each other, so
+    /// that what slows the machine for a while slows both.
+    pub fn over(&self, other: &Samples) -> f64 {
+        median(self.0.iter().zip(&other.0).map(|(a, b)| a / b).collect())
+    }
 }
 
-/// Times two sides against each other. Both are called equally often.
-pub fn contest(library: &mut dyn FnMut(), rust: &mut dyn FnMut()) -> Times {
-    let library_warm = time(library, WARM_UP);
-    let rust_warm = time(rust, WARM_UP);
-    let slower = library_warm.max(rust_warm).max(1.0);
-    let calls = (SAMPLE.as_nanos() as f64 / slower).ceil() as u32;
-    let (mut of_library, mut of_rust) = (Vec::new(), Vec::new());
+/// Times sides against each other. All are called equally often.
+pub fn contest(sides: &mut [Side]) -> Vec<Samples> {
+    let warm = sides.iter_mut().map(|side| time(side, WARM_UP));
+    let slowest = warm.fold(1.0, f64::max);
+    let calls = (SAMPLE.as_nanos() as f64 / slowest).ceil() as u32;
+    let count = sides.len();
+    let mut times = vec![Vec::new(); count];
     for sample in 0..SAMPLES {
-        // Neither side always comes second, with the other's work still in the caches.
-        if sample % 2 == 0 {
-            of_library.push(time(library, calls));
-            of_rust.push(time(rust, calls));
-        } else {
-            of_rust.push(time(rust, calls));
-            of_library.push(time(library, calls));
+        // No side always comes after the same one, with the other's work still in the caches.
+        for turn in 0..count {
+            let side = (sample + turn) % count;
+            times[side].push(time(&mut sides[side], calls));
         }
     }
-    let ratios = of_library
-        .iter()
-        .zip(&of_rust)
-        .map(|(library, rust)| library / rust);
-    Times {
-        ratio: median(ratios.collect()),
-        library: median(of_library),
-        rust: median(of_rust),
-    }
+    times.into_iter().map(Samples).collect()
 }
 
 /// Nanoseconds per call.
-fn time(side: &mut dyn FnMut(), calls: u32) -> f64 {
+fn time(side: &mut Side, calls: u32) -> f64 {
     let start = Instant::now();
     for _ in 0..calls {
         side();

@@ -1,6 +1,5 @@
 //! The containers and requests of the benchmark.
 
-use beamsatchel_node::{ffi, model};
 use beamsatchel_node::{
     AddLease, CancelLease, CancelToken, Container, Lease, NodeId, Opcode, Read, RenewLease,
     RenewalToken, TestAndWrite, WriteEnabler,
@@ -134,6 +133,36 @@ fn lease(number: u8) -> Lease {
     }
 }
 
+/// The rows of the benchmark: a name, the slot, and the requests that come in turn.
+pub fn rows() -> Vec<(String, Slot, Vec<Vec<u8>>)> {
+    let long = || Slot::new(60 * 1024, 56 * 1024);
+    let slot = long();
+    let mut rows: Vec<_> = [
+        ("write 4 KiB at random offsets", slot.writes(4096)),
+        ("write 4 KiB past the end, or cut it", slot.growth(2048)),
+        ("read 4 KiB at random offsets", slot.reads(4096)),
+        ("renew the last of six leases", slot.renewals()),
+        ("add a lease, or cancel it", slot.lease_lives()),
+        ("a false test of 4 KiB", slot.false_tests(4096)),
+    ]
+    .map(|(name, requests)| (name.to_string(), long(), requests))
+    .into();
+    for kibibytes in [2, 8, 32, 64] {
+        let length = kibibytes * 1024;
+        // Half of the room is data.
+        let slot = || Slot::new(length, (length - 472 - 2 * 92) / 2);
+        let timed = slot();
+        for (name, requests) in [
+            ("write 512 bytes", timed.writes(512)),
+            ("read 512 bytes", timed.reads(512)),
+            ("renew a lease", timed.renewals()),
+        ] {
+            rows.push((format!("{name}, {kibibytes} KiB"), slot(), requests));
+        }
+    }
+    rows
+}
+
 /// Document 01's share of 2,043 bytes.
 pub fn share() -> Vec<u8> {
     let mut share = vec![0; 2043];
@@ -157,9 +186,11 @@ pub fn share() -> Vec<u8> {
     share
 }
 
-/// One side: its container, and the requests that it applies in turn.
+/// A side: container, request and reply space in, the outcome's number out.
+pub type Apply<'a> = dyn Fn(&mut [u8], &[u8], &mut [u8]) -> u32 + 'a;
+
+/// A container, and the requests that are applied to it in turn.
 pub struct Player<'a> {
-    apply: fn(&mut [u8], &[u8], &mut [u8]) -> u32,
     pub container: Vec<u8>,
     requests: &'a [Vec<u8>],
     reply: Vec<u8>,
@@ -167,25 +198,8 @@ pub struct Player<'a> {
 }
 
 impl<'a> Player<'a> {
-    pub fn of_library(slot: &Slot, requests: &'a [Vec<u8>]) -> Player<'a> {
-        Player::new(slot, requests, |container, request, reply| {
-            ffi::apply(container, request, reply).number
-        })
-    }
-
-    pub fn of_rust(slot: &Slot, requests: &'a [Vec<u8>]) -> Player<'a> {
-        Player::new(slot, requests, |container, request, reply| {
-            model::fast::apply(container, request, reply).number
-        })
-    }
-
-    fn new(
-        slot: &Slot,
-        requests: &'a [Vec<u8>],
-        apply: fn(&mut [u8], &[u8], &mut [u8]) -> u32,
-    ) -> Player<'a> {
+    pub fn new(slot: &Slot, requests: &'a [Vec<u8>]) -> Player<'a> {
         Player {
-            apply,
             container: slot.container(),
             requests,
             reply: vec![0; REPLY_SPACE],
@@ -193,11 +207,12 @@ impl<'a> Player<'a> {
         }
     }
 
-    /// Applies the next request, which is done or has a false test.
-    pub fn play(&mut self) {
+    /// Applies the next request, which is done or has a false test. Nothing of `apply` is known
+    /// here, so neither side is compiled into its caller.
+    pub fn play(&mut self, apply: &Apply) {
         let request = &self.requests[self.next];
         self.next = (self.next + 1) % self.requests.len();
-        let number = (self.apply)(&mut self.container, black_box(request), &mut self.reply);
+        let number = black_box(apply)(&mut self.container, black_box(request), &mut self.reply);
         assert!(matches!(number, 0 | 8), "outcome {number}");
     }
 }

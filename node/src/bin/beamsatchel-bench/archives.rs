@@ -1,0 +1,174 @@
+//! Archives of the library against each other: what a change makes of its speed.
+//!
+//! Where the linker puts a loop moves its time by a tenth, and so does where a buffer lies. Each
+//! archive is therefore loaded at four places, every time 16 bytes further on, and all work in turn
+//! on the same buffers. A row gives the mean over the four.
+
+#![allow(unsafe_code)]
+
+use crate::contest::{contest, Side};
+use crate::work::{self, Player, Slot};
+use beamsatchel_node::ffi::{RawAnswer, RawShare};
+use std::cell::RefCell;
+use std::ffi::{c_char, c_int, c_void, CStr, CString};
+use std::hint::black_box;
+use std::mem::transmute;
+use std::os::unix::ffi::OsStrExt;
+use std::path::Path;
+use std::process::Command;
+use std::{env, fs, process};
+
+/// What a processor fetches at once, in bytes.
+const BLOCK: usize = 64;
+/// Functions begin at multiples of 16.
+const PLACES: usize = BLOCK / 16;
+/// dlopen's flag to resolve all names at once.
+const NOW: c_int = 2;
+
+type Apply = unsafe extern "C" fn(*mut u8, usize, *const u8, usize, *mut u8, usize) -> RawAnswer;
+type Check = unsafe extern "C" fn(*const u8, usize) -> RawShare;
+
+unsafe extern "C" {
+    fn dlopen(path: *const c_char, flags: c_int) -> *mut c_void;
+    fn dlsym(library: *mut c_void, name: *const c_char) -> *mut c_void;
+}
+
+/// The functions of one archive at one place.
+struct Library {
+    apply: Apply,
+    check_share: Check,
+    check_container: Check,
+}
+
+impl Library {
+    /// Loads a shared object that holds the library.
+    fn load(object: &Path) -> Library {
+        let path = CString::new(object.as_os_str().as_bytes()).expect("no zero byte");
+        // SAFETY: the path ends with a zero byte. The library runs nothing when it is loaded, and is
+        // never closed.
+        let loaded = unsafe { dlopen(path.as_ptr(), NOW) };
+        assert!(!loaded.is_null(), "cannot load {}", object.display());
+        let find = |name: &CStr| {
+            // SAFETY: the library is loaded, and the name ends with a zero byte.
+            let found = unsafe { dlsym(loaded, name.as_ptr()) };
+            assert!(!found.is_null(), "the archive has no {name:?}");
+            found
+        };
+        let apply = find(c"beamsatchel_apply");
+        let check_share = find(c"beamsatchel_check_share");
+        let check_container = find(c"beamsatchel_check_container");
+        // SAFETY: the types are those of include/beamsatchel.h.
+        unsafe {
+            Library {
+                apply: transmute::<*mut c_void, Apply>(apply),
+                check_share: transmute::<*mut c_void, Check>(check_share),
+                check_container: transmute::<*mut c_void, Check>(check_container),
+            }
+        }
+    }
+
+    fn apply(&self, container: &mut [u8], request: &[u8], reply: &mut [u8]) -> u32 {
+        // SAFETY: pointer and length of each are those of one live slice, and none overlaps another.
+        let answer = unsafe {
+            (self.apply)(
+                container.as_mut_ptr(),
+                container.len(),
+                request.as_ptr(),
+                request.len(),
+                reply.as_mut_ptr(),
+                reply.len(),
+            )
+        };
+        answer.number
+    }
+}
+
+/// Checks bytes that hold a good share.
+fn check(check: Check, bytes: &[u8]) {
+    let bytes = black_box(bytes);
+    // SAFETY: pointer and length are those of one live slice, which is only read.
+    let answer = unsafe { check(bytes.as_ptr(), bytes.len()) };
+    assert_eq!(answer.number, 0);
+}
+
+/// Makes a shared object of the archive, its code `shift` bytes further on.
+fn link(archive: &str, shift: usize, object: &Path) {
+    let before = object.with_extension("s");
+    let bytes = BLOCK + shift;
+    let source = format!(
+        ".section .note.GNU-stack,\"\",@progbits
+         .section .text.before,\"ax\",@progbits
+         .balign {BLOCK}
+         .skip {bytes}, 0x90\n"
+    );
+    fs::write(&before, source).expect("a file in our own folder");
+    let status = Command::new("cc")
+        .args(["-shared", "-o"])
+        .args([object, &before])
+        .args(["-Wl,--whole-archive", archive, "-Wl,--no-whole-archive"])
+        .status()
+        .unwrap_or_else(|error| panic!("cannot run cc: {error}"));
+    assert!(status.success(), "cc cannot link {archive}");
+}
+
+/// Each archive at each place.
+fn load_all(archives: &[String]) -> Vec<Library> {
+    let folder = env::temp_dir().join(format!("beamsatchel-bench-{}", process::id()));
+    fs::create_dir(&folder).expect("a folder of our own");
+    let mut libraries = Vec::new();
+    for archive in archives {
+        for shift in (0..BLOCK).step_by(BLOCK / PLACES) {
+            let object = folder.join(format!("{}.so", libraries.len()));
+            link(archive, shift, &object);
+            libraries.push(Library::load(&object));
+        }
+    }
+    fs::remove_dir_all(&folder).expect("a folder of our own");
+    libraries
+}
+
+/// Prints a row for each workload: nanoseconds for each archive, and how many times as long as the
+/// first.
+pub fn against_each_other(archives: &[String]) {
+    let libraries = load_all(archives);
+    println!("medians, ns per call, mean of {PLACES} places; how many times as long as the first");
+    for (name, slot, requests) in work::rows() {
+        let player = RefCell::new(Player::new(&slot, &requests));
+        row(&name, &libraries, |library| {
+            player.borrow_mut().play(&|c, q, r| library.apply(c, q, r));
+        });
+    }
+    let share = work::share();
+    row("check a bare share of 2,043 bytes", &libraries, |library| {
+        check(library.check_share, &share);
+    });
+    let container = Slot::with_share(60 * 1024);
+    row(
+        "check a share in a 60 KiB container",
+        &libraries,
+        |library| {
+            check(library.check_container, &container);
+        },
+    );
+}
+
+fn row(name: &str, libraries: &[Library], call: impl Fn(&Library)) {
+    let call = &call;
+    let mut sides: Vec<Side> = libraries
+        .iter()
+        .map(|library| Box::new(move || call(library)) as Side)
+        .collect();
+    let times = contest(&mut sides);
+    let ratios: Vec<f64> = times.iter().map(|side| side.over(&times[0])).collect();
+    let first = mean(&ratios[..PLACES]);
+    print!("{name:<40}");
+    for (places, ratios) in times.chunks(PLACES).zip(ratios.chunks(PLACES)) {
+        let medians: Vec<f64> = places.iter().map(|side| side.median()).collect();
+        print!(" {:>9.1} {:>6.3}", mean(&medians), mean(ratios) / first);
+    }
+    println!();
+}
+
+fn mean(values: &[f64]) -> f64 {
+    values.iter().sum::<f64>() / values.len() as f64
+}
