@@ -9,7 +9,7 @@ use Rattle.octets.specs.Facts.{Octets, Each}
 use Rattle.octets.proofs.NumberLaws.{octets-digits}
 use Rattle.octets.proofs.StringLaws.{octets-take, octets-drop, octets-append, octets-join}
 use Rattle.format.specs.Layout.{magic, nodeAt, enablerAt, leasesAt, dataAt, countAt, nodeOf, enablerOf, sizeOf}
-use Rattle.format.specs.Layout.{dataOf, extrasOf, records, leasesOf, fixedPlaces, recordSize}
+use Rattle.format.specs.Layout.{dataOf, extrasOf, records, leasesOf, countSize, fixedPlaces, recordSize}
 use Rattle.format.specs.Layout.{nodeSize, secretSize, sizeWidth, extrasAt}
 use Rattle.format.specs.Parts.{Parts, extras, used, partsOf, encode}
 use Rattle.format.specs.Claims.{OctetParts, RoundTrip}
@@ -52,8 +52,8 @@ octets-encode p o =
     (o .leases)) in
     let m : Octets more = octets-join (drop fixedPlaces (p .leases)) (each-drop Octets fixedPlaces (p .leases)
     (o .leases)) in
-    let rest : List (List ℕ) = four ∷ p .bytes ∷ digits 4 e ∷ more ∷ [] in
-    let h : Each Octets rest = (f, (o .bytes, (octets-digits 4 e, (m, tt)))) in
+    let rest : List (List ℕ) = four ∷ p .bytes ∷ digits countSize e ∷ more ∷ [] in
+    let h : Each Octets rest = (f, (o .bytes, (octets-digits countSize e, (m, tt)))) in
     let z : ℕ = p .room - used p in
     rw encode-flat
     (octets-onto (magic ∷ p .node ∷ p .enabler ∷ digits sizeWidth s ∷ digits sizeWidth (countAt s) ∷ rest)

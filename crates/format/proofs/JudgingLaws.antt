@@ -14,7 +14,7 @@ use borrow.Author.Tests.{leb-true, eq-eqb, ne-eqb, le-leb, lt-leb}
 use Rattle.octets.specs.Numbers.{number, numberAt}
 use Rattle.octets.specs.Strings.{allZero}
 use Rattle.format.specs.Layout.{least, limit, leasesAt, countAt, sizeOf, extrasOf, records, leasesOf, ownerOf}
-use Rattle.format.specs.Layout.{dataAt, extraLimit, recordSize, sizeWidth, sizeAt, fixedPlaces}
+use Rattle.format.specs.Layout.{dataAt, extraLimit, recordSize, sizeWidth, sizeAt, fixedPlaces, countSize}
 use Rattle.format.specs.Layout.{usedLength, extrasAt}
 use Rattle.format.specs.Container.{lengthAllowed, held, recordOk, lastHeld, fieldsOk, contentsOk, wellFormed}
 use Rattle.format.specs.Judging.{fieldsFound, Framed, Judges, Known, frameOf}
@@ -106,9 +106,9 @@ pub size-read : (c : List ℕ) (s : ℕ) → s ≡ numberAt sizeWidth sizeAt c �
 unfolding sizeOf
 size-read c s e = sym e
 
-pub extras-read : (c : List ℕ) (s o e : ℕ) → sizeOf c ≡ s → o ≡ dataAt + s → e ≡ numberAt 4 o c → extrasOf c ≡ e
+pub extras-read : (c : List ℕ) (s o e : ℕ) → sizeOf c ≡ s → o ≡ dataAt + s → e ≡ numberAt countSize o c → extrasOf c ≡ e
 unfolding extrasOf countAt
-extras-read c s o e p q r = rw p (ap (λ (n : ℕ). numberAt 4 n c) (sym q) ∙ sym r)
+extras-read c s o e p q r = rw p (ap (λ (n : ℕ). numberAt countSize n c) (sym q) ∙ sym r)
 
 -- ---- the contents, in the order in which the code tests them
 leases-ok : (c : List ℕ) → every recordOk (leasesOf c) ≡ (every recordOk (records fixedPlaces leasesAt c)

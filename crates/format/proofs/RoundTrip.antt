@@ -54,13 +54,13 @@ records-sizes (suc n) p c h = (
 -- ---- the leases of a container: the four, then the extras
 pub four-leases : (c : List ℕ) → take fixedPlaces (leasesOf c) ≡ records fixedPlaces leasesAt c
 unfolding leasesOf
-four-leases c = take-at (records fixedPlaces leasesAt c) (records (extrasOf c) (extrasAt (sizeOf c)) c) 4
+four-leases c = take-at (records fixedPlaces leasesAt c) (records (extrasOf c) (extrasAt (sizeOf c)) c) fixedPlaces
     (length-records fixedPlaces leasesAt c)
 
 pub extra-leases : (c : List ℕ) → drop fixedPlaces (leasesOf c)
     ≡ records (extrasOf c) (extrasAt (sizeOf c)) c
 unfolding leasesOf
-extra-leases c = drop-at (records fixedPlaces leasesAt c) (records (extrasOf c) (extrasAt (sizeOf c)) c) 4
+extra-leases c = drop-at (records fixedPlaces leasesAt c) (records (extrasOf c) (extrasAt (sizeOf c)) c) fixedPlaces
     (length-records fixedPlaces leasesAt c)
 
 pub leases-sizes : (c : List ℕ) → usedLength (sizeOf c) (extrasOf c) ≤ length c
@@ -219,7 +219,7 @@ module _ (p : Parts) (v : Valid p) where
   sizes : Each (λ r. length r ≡ recordSize) (p .leases)
   sizes = places-sizes (p .leases) (v .places)
 
-  four-long : length (take fixedPlaces (p .leases)) ≡ 4
+  four-long : length (take fixedPlaces (p .leases)) ≡ fixedPlaces
   four-long = length-take-le fixedPlaces (p .leases) (v .four)
 
   extras-long : length (drop fixedPlaces (p .leases)) ≡ extras (p .leases)

@@ -18,7 +18,7 @@ pub const SECRET_SIZE: usize = 32;
 // The width of the data size and of the offset of the count.
 pub const SIZE_WIDTH: usize = 8;
 
-pub const COUNT_SIZE: usize = 4;
+pub(crate) const COUNT_SIZE: usize = 4;
 
 // A lease record: owner, expiry, renewal token, cancel token, node id.
 pub const EXPIRY_AT: usize = 4;
