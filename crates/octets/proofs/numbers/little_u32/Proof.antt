@@ -1,6 +1,6 @@
 -- Four bytes one by one.
 use mathlib.Core.Path.{sym, _∙_}
-use Rattle.octets.proofs.NumberLaws.{little-four}
+use Rattle.octets.proofs.LittleLaws.{little-four}
 use borrow.Author.Needs.{needs}
 use Rattle.octets.proofs.numbers.little_u32.Statement.{statement}
 use Rattle.octets.proofs.numbers.little_u32.Tie as tie

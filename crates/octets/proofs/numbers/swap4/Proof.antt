@@ -1,5 +1,5 @@
 -- The digits are taken off one by one.
-use Rattle.octets.proofs.NumberLaws.{little-swap}
+use Rattle.octets.proofs.LittleLaws.{little-swap}
 use borrow.Author.Needs.{needs}
 use Rattle.octets.proofs.numbers.swap4.Statement.{statement}
 use Rattle.octets.proofs.numbers.swap4.Tie as tie
