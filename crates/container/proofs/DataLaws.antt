@@ -18,7 +18,6 @@ use Rattle.format.proofs.RoundTrip.{data-field}
 use Rattle.format.proofs.WellFormed.{data-length, formed-facts, used-is}
 use Rattle.rules.proofs.OutcomeLaws.{formed-length}
 use Rattle.format.proofs.JudgingLaws.{judged-formed, judged-length, judged-malformed, length-unformed}
-use Rattle.octets.specs.Numbers.{number}
 use Rattle.format.proofs.KnownLaws.{frame-size}
 
 pub beyond-is : (p : ℕ × ℕ) (n : ℕ) → _≡_ {A = ℕ × ℕ} (p .0, n + p .1) (beyond p n)

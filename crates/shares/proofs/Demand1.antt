@@ -15,7 +15,7 @@ use Rattle.container.proofs.DataLaws.{lends, lent-number}
 use Rattle.shares.specs.Bounds.{partOf}
 use Rattle.shares.specs.Header.{keyAt, endAt}
 use Rattle.shares.specs.Rows.{headRows, bodyRows, shareOutcome}
-use Rattle.shares.specs.Share.{boundsOf, refused, checkedOf, checkedContainer, sharePart, partAt}
+use Rattle.shares.specs.Share.{boundsOf, checkedOf, checkedContainer, sharePart, partAt}
 use Rattle.shares.specs.Share.{containerPart, containerPartAt}
 use Rattle.shares.specs.Facts.{PartInside}
 use Rattle.shares.specs.Claims.{shareNumbers, containerNumbers, InTurn, Demand1Share, Demand1Container}

@@ -2,7 +2,7 @@
 use mathlib.Core.Path.{_≡_, refl, sym, ap, _∙_}
 use mathlib.Core.Bool.{Bool, true, false, cond, false≢true}
 use mathlib.Core.List.{List, _∷_, _++_}
-use Prim.Native.Nat.{ℕ, _+_, _≤_}
+use Prim.Native.Nat.{ℕ, _≤_}
 use lib.Dec.{eqb, ltb}
 use Rattle.octets.specs.Moves.{put}
 use lib.ListN.{length}
@@ -56,7 +56,7 @@ module _ {c q r : List ℕ} {f : Frame} {t : Parted} {v : Verdict} (G : Writing 
   pub decided : Decided c q f t v
   decided = record { known = G .known; parted = G .request .parted; space = length r; verdict = G .verdict }
 
-  number-is : outcome c q (length r) ≡ v .number
+  pub number-is : outcome c q (length r) ≡ v .number
   unfolding requestRows verdictOf
   number-is = outcome-formed c q (length r) (G .known .formed) ∙ rw (G .request .is, G .verdict)
 
