@@ -26,7 +26,7 @@ use Rattle.octets.specs.Numbers.{numberAt, signed}
 use Rattle.octets.proofs.NumberLaws.{numberAt-below}
 use Rattle.rules.specs.Requests.{entrySpecimen, entryCount, entryOffset, paddingAt}
 use Rattle.requests.specs.Forms.{BytesIn}
-use Rattle.requests.specs.Cursors.{bodyAt, bodyOf, bytesAt, entryAt}
+use Rattle.requests.specs.Cursors.{bodyAt, bodyOf, bytesFrom, entryAt}
 
 -- ---- an offset resolved
 below-is : (z : ℤ) (size : ℕ) → ltZ z (pos 0) ≡ true
@@ -103,12 +103,12 @@ unfolding entryOffset
 position-below p q size = signed-below (numberAt 4 p q) size
 
 -- ---- bytes from a cursor on
-pub bytes-length : (q : List ℕ) (k : Cursor) (n : ℕ) → BytesIn q k n → length (bytesAt k n q) ≡ n
+pub bytes-length : (q : List ℕ) (k : Cursor) (n : ℕ) → BytesIn q k n → length (bytesFrom k n q) ≡ n
 bytes-length q k n h = length-take-le n (drop (k .at) q) (rw length-drop (omega (arith, h)))
 
 pub body-in : (q : List ℕ) (k : Cursor) (n : ℕ) (b : Body) → b ≡ bodyAt (k .at) n → BytesIn q k n
     → (b .from ≤ b .to) × (b .to ≤ length q)
 body-in q k n b e h = rw e (omega arith, omega (arith, h))
 
-pub body-is : (q : List ℕ) (k : Cursor) (n : ℕ) (b : Body) → b ≡ bodyAt (k .at) n → bodyOf b q ≡ bytesAt k n q
+pub body-is : (q : List ℕ) (k : Cursor) (n : ℕ) (b : Body) → b ≡ bodyAt (k .at) n → bodyOf b q ≡ bytesFrom k n q
 body-is q k n b e = let m : k .at + n - k .at ≡ n = omega arith in rw (e, m)

@@ -30,8 +30,8 @@ abbrev pub bodyOf : Body → List ℕ → List ℕ
 bodyOf b q = take (b .to - b .from) (drop (b .from) q)
 
 -- The n bytes from a cursor on.
-abbrev pub bytesAt : Cursor → ℕ → List ℕ → List ℕ
-bytesAt k n q = take n (drop (k .at) q)
+abbrev pub bytesFrom : Cursor → ℕ → List ℕ → List ℕ
+bytesFrom k n q = take n (drop (k .at) q)
 
 -- A lease record: owner, expiry, and where renewal token and the record as a whole stand.
 abbrev pub recordAt : ℕ → List ℕ → Record

@@ -13,7 +13,7 @@ use Rattle.format.specs.Container.{held}
 use Rattle.rules.specs.Requests.{Test, Write, Request, testWrite, add, renew, cancel, read, requestLimit}
 use Rattle.rules.specs.Requests.{entryLimit, entrySize, testSize, entryCount, entrySpecimen, testEntryOk, allFrom}
 use Rattle.rules.specs.Requests.{sumFrom, testsFrom, writesFrom, readsFrom}
-use Rattle.requests.specs.Cursors.{bytesAt}
+use Rattle.requests.specs.Cursors.{bytesFrom}
 use Rattle.requests.specs.declared.cursors.Cursor.{Cursor}
 use Rattle.requests.specs.declared.cursors.Record.{Record}
 use Rattle.requests.specs.declared.cursors.Header.{Header}
@@ -47,7 +47,7 @@ abbrev pub cutIn : Cut → Option ℕ
 cutIn c = cond (c .set) (some (c .length)) none
 
 abbrev pub writeIn : Parted → List ℕ → Request
-writeIn t q = testWrite (bytesAt (t .enabler) secretSize q) (testsIn t q) (writesIn t q) (cutIn (t .cut))
+writeIn t q = testWrite (bytesFrom (t .enabler) secretSize q) (testsIn t q) (writesIn t q) (cutIn (t .cut))
 
 abbrev pub readIn : Table → List ℕ → Request
 readIn t q = read (readsFrom (t .count) (t .first .at) q)
@@ -56,9 +56,9 @@ readIn t q = read (readsFrom (t .count) (t .first .at) q)
 abbrev pub asked : List ℕ → Form → Option Request
 asked q Broken = none
 asked q (TestWrite t) = some (writeIn t q)
-asked q (Add r) = some (add (bytesAt (r .whole) recordSize q))
-asked q (Renew k x) = some (renew (bytesAt k secretSize q) x)
-asked q (Cancel k) = some (cancel (bytesAt k secretSize q))
+asked q (Add r) = some (add (bytesFrom (r .whole) recordSize q))
+asked q (Renew k x) = some (renew (bytesFrom k secretSize q) x)
+asked q (Cancel k) = some (cancel (bytesFrom k secretSize q))
 asked q (ReadForm t) = some (readIn t q)
 
 -- ---- inside the request
@@ -90,9 +90,9 @@ pub record PartedIn (q : List ℕ) (t : Parted) : Type 0 where
 pub record RecordIn (q : List ℕ) (r : Record) : Type 0 where
   pub whole : BytesIn q (r .whole) recordSize
   pub renewal : BytesIn q (r .renewal) secretSize
-  pub owned : held (bytesAt (r .whole) recordSize q) ≡ true
-  pub renewal-is : bytesAt (r .renewal) secretSize q ≡ renewalOf (bytesAt (r .whole) recordSize q)
-  pub expiry-is : r .expiry ≡ expiryOf (bytesAt (r .whole) recordSize q)
+  pub owned : held (bytesFrom (r .whole) recordSize q) ≡ true
+  pub renewal-is : bytesFrom (r .renewal) secretSize q ≡ renewalOf (bytesFrom (r .whole) recordSize q)
+  pub expiry-is : r .expiry ≡ expiryOf (bytesFrom (r .whole) recordSize q)
 
 -- What a form names lies inside the request.
 abbrev pub Inside : List ℕ → Form → Type 0

@@ -192,6 +192,7 @@ fn test_write_form(q: &[u8], at: Cursor) -> Form
     }
     let first = header.next.body(q, SECRET_SIZE).next;
     let tested = pass_tests(q, first, tests);
+    // Before the entries are judged: behind one more test the compiler takes this walk for a rare one.
     let written = pass_writes(q, tested.next, writes);
     if !tested.good {
         return Form::Broken;

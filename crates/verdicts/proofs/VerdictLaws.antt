@@ -33,7 +33,7 @@ use Rattle.rules.proofs.Kept.{after-valid}
 use Rattle.rules.proofs.WriteLaws.{length-cutTo, length-writeAll}
 use Rattle.octets.specs.Strings.{same}
 use Rattle.replies.proofs.PieceLaws.{test-pieces, test-resolve}
-use Rattle.requests.specs.Cursors.{bytesAt}
+use Rattle.requests.specs.Cursors.{bytesFrom}
 use Rattle.format.proofs.RoundTrip.{parts-valid}
 use Rattle.requests.proofs.CursorLaws.{position-below}
 use Rattle.writes.specs.Sizes.{reachedBy}
@@ -134,7 +134,7 @@ module _ {c q d : List ℕ} {f : Frame} {t : Parted} {m : Measured} {x : Reached
   module _ (space : ℕ) where
     abbrev pub admits : List Row
     admits = row 4 (not (m .resolves && x .resolves))
-        ∷ row 5 (not (same (bytesAt (t .enabler) secretSize q) (enablerOf c))) ∷ []
+        ∷ row 5 (not (same (bytesFrom (t .enabler) secretSize q) (enablerOf c))) ∷ []
 
     abbrev pub finds : List Row
     finds = row 7 (ltb space (m .length)) ∷ row 8 (not (every (holds d) (testsIn t q))) ∷ []

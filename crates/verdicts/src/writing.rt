@@ -14,7 +14,7 @@ ghost use Rattle.format.specs.Parts.{partsOf, encode};
 ghost use Rattle.format.specs.Judging.{Known};
 ghost use Rattle.rules.specs.Testing.{holds};
 ghost use Rattle.rules.specs.Outcomes.{after, replies, answered, containerAfter, replyAfter};
-ghost use Rattle.requests.specs.Cursors.{bytesAt};
+ghost use Rattle.requests.specs.Cursors.{bytesFrom};
 ghost use Rattle.requests.specs.Forms.{BytesIn, PartedIn, testsIn, writeIn};
 ghost use Rattle.verdicts.specs.Writing.{verdictOf, Decided, WriteRequest};
 use format::layout::DATA_AT;
@@ -39,7 +39,7 @@ pub struct Verdict {
 fn admit(c: &[u8], q: &[u8], enabler: Cursor, resolves: bool) -> u32
     requires { ⌜ (least ≤ length (now c)) × BytesIn (now q) enabler secretSize ⌝ }
     ensures { λ r. ⌜ r ≡ firstRow (row 4 (not resolves)
-        ∷ row 5 (not (same (bytesAt enabler secretSize (now (q .entry))) (enablerOf (now (c .entry))))) ∷ []) ⌝ }
+        ∷ row 5 (not (same (bytesFrom enabler secretSize (now (q .entry))) (enablerOf (now (c .entry))))) ∷ []) ⌝ }
 {
     if !resolves {
         return 4;

@@ -10,7 +10,7 @@ use Rattle.format.specs.Parts.{partsOf}
 use Rattle.rules.specs.Requests.{add, renew, cancel, requestOf}
 use Rattle.requests.specs.declared.forms.Form.the-variants.{Add, Renew, Cancel}
 use Rattle.requests.specs.Forms.{Takes}
-use Rattle.requests.specs.Cursors.{bytesAt}
+use Rattle.requests.specs.Cursors.{bytesFrom}
 use Rattle.requests.proofs.CursorLaws.{bytes-length, body-in, body-is}
 use Rattle.leases.specs.Operations.{leaseDone, leaseContainer}
 use Rattle.container.proofs.RefusalLaws.{broken}
@@ -40,20 +40,20 @@ cancels : (c : tie.After-at2)
 cancels c = subst (Takes _ _) (c .at2 .given .1) (c .before .before .form-of .ensures)
 
 -- The record and the tokens that were sent.
-added : (c : tie.After-bytes) → c .bytes .result .now
-    ≡ bytesAt (c .before .before .before .before .before .lease .given .0 .0 .whole) recordSize
+sent-record : (c : tie.After-bytes) → c .bytes .result .now
+    ≡ bytesFrom (c .before .before .before .before .before .lease .given .0 .0 .whole) recordSize
     (c .before .before .before .before .before .before .before .before .before .before .before .args .q .now)
-added c = c .bytes .ensures ∙ body-is _ _ _ _ (c .before .before .before .body .ensures)
+sent-record c = c .bytes .ensures ∙ body-is _ _ _ _ (c .before .before .before .body .ensures)
 
-renewed : (c : tie.After-bytes3) → c .bytes3 .result .now
-    ≡ bytesAt (c .before .before .before .before .at .given .0 .0) secretSize
+sent-renewal : (c : tie.After-bytes3) → c .bytes3 .result .now
+    ≡ bytesFrom (c .before .before .before .before .at .given .0 .0) secretSize
     (c .before .before .before .before .before .before .before .before .before .before .args .q .now)
-renewed c = c .bytes3 .ensures ∙ body-is _ _ _ _ (c .before .before .body3 .ensures)
+sent-renewal c = c .bytes3 .ensures ∙ body-is _ _ _ _ (c .before .before .body3 .ensures)
 
-cancelled : (c : tie.After-bytes4) → c .bytes4 .result .now
-    ≡ bytesAt (c .before .before .before .before .at2 .given .0 .0) secretSize
+sent-cancel : (c : tie.After-bytes4) → c .bytes4 .result .now
+    ≡ bytesFrom (c .before .before .before .before .at2 .given .0 .0) secretSize
     (c .before .before .before .before .before .before .before .before .before .before .args .q .now)
-cancelled c = c .bytes4 .ensures ∙ body-is _ _ _ _ (c .before .before .body4 .ensures)
+sent-cancel c = c .bytes4 .ensures ∙ body-is _ _ _ _ (c .before .before .body4 .ensures)
 
 form-of-requires : tie.Need-form-of-requires
 form-of-requires c κs = search needs
@@ -103,7 +103,7 @@ add-lease-requires c κs =
     let s = l .before .before .before .before .before .before in
     let x = l .lease .given .0 .0 in
     let i = adds l .inside in
-    let e = added (c .before) in
+    let e = sent-record (c .before) in
     let t = body-is (s .args .q .now) (x .renewal) secretSize _ (c .before .before .before .body2 .ensures) in (
       s .pre,
       ap length e ∙ bytes-length (s .args .q .now) (x .whole) recordSize (i .whole),
@@ -132,7 +132,7 @@ renew-lease-requires c κs =
     let l = c .before .before .before .before in
     let s = l .before .before .before .before .before .before in
     let b = bytes-length (s .args .q .now) (l .at .given .0 .0) secretSize (renews l .inside) in
-    (s .pre, ap length (renewed c) ∙ b)
+    (s .pre, ap length (sent-renewal c) ∙ b)
 
 answer-requires-3 : tie.Need-answer-requires-3
 answer-requires-3 c κs = search needs
@@ -154,7 +154,7 @@ cancel-lease-requires c κs =
     let l = c .before .before .before .before in
     let s = l .before .before .before .before .before .before in
     let b = bytes-length (s .args .q .now) (l .at2 .given .0 .0) secretSize (cancels l .inside) in
-    (s .pre, ap length (cancelled c) ∙ b)
+    (s .pre, ap length (sent-cancel c) ∙ b)
 
 answer-requires-4 : tie.Need-answer-requires-4
 answer-requires-4 c κs = search needs
@@ -195,7 +195,7 @@ returns-3 c =
     let s = l .before .before .before .before .before .before in
     let x = s .args .c .now in
     let d = c .before .before .before .add-lease in
-    let e = added (c .before .before .before .before .before) in
+    let e = sent-record (c .before .before .before .before .before) in
     lease-results x (s .args .q .now) _ (s .pre .formed) (sym (adds l .asks)) tt (d .result) _ _ _ (d .ensures .0
     ∙ ap (λ (l : List ℕ). leaseDone (partsOf x) (add l)) e) (d .ensures .1
     ∙ ap (λ (l : List ℕ). leaseContainer x (add l)) e) (c .answer2 .ensures)
@@ -209,7 +209,7 @@ returns-4 c =
     let s = l .before .before .before .before .before .before in
     let x = s .args .c .now in
     let d = c .before .before .before .renew-lease in
-    let e = renewed (c .before .before .before .before) in
+    let e = sent-renewal (c .before .before .before .before) in
     let y = l .at .given .0 .1 .0 in
     lease-results x (s .args .q .now) _ (s .pre .formed) (sym (renews l .asks)) tt (d .result) _ _ _ (d .ensures .0
     ∙ ap (λ (l : List ℕ). leaseDone (partsOf x) (renew l y)) e) (d .ensures .1
@@ -224,7 +224,7 @@ returns-5 c =
     let s = l .before .before .before .before .before .before in
     let x = s .args .c .now in
     let d = c .before .before .before .cancel-lease in
-    let e = cancelled (c .before .before .before .before) in
+    let e = sent-cancel (c .before .before .before .before) in
     lease-results x (s .args .q .now) _ (s .pre .formed) (sym (cancels l .asks)) tt (d .result) _ _ _ (d .ensures .0
     ∙ ap (λ (l : List ℕ). leaseDone (partsOf x) (cancel l)) e) (d .ensures .1
     ∙ ap (λ (l : List ℕ). leaseContainer x (cancel l)) e) (c .answer4 .ensures)

@@ -8,7 +8,7 @@ use borrow.Author.Tests.{not-true, not-false}
 use Rattle.octets.specs.Rows.{firstRow}
 use Rattle.octets.specs.Strings.{same}
 use Rattle.format.specs.Layout.{secretSize, enablerOf}
-use Rattle.requests.specs.Cursors.{bytesAt}
+use Rattle.requests.specs.Cursors.{bytesFrom}
 use Rattle.requests.proofs.CursorLaws.{bytes-length, body-in, body-is}
 use borrow.Author.Needs.{needs}
 use Rattle.verdicts.proofs.writing.admit.Statement.{statement}
@@ -16,14 +16,14 @@ use Rattle.verdicts.proofs.writing.admit.Tie as tie
 
 -- The enabler that was sent.
 sent : (c : tie.After-bytes) → c .bytes .result .now
-    ≡ bytesAt (c .before .before .before .before .before .args .enabler) secretSize
+    ≡ bytesFrom (c .before .before .before .before .before .args .enabler) secretSize
     (c .before .before .before .before .before .args .q .now)
 sent c = c .bytes .ensures ∙ body-is _ _ _ _ (c .before .body .ensures)
 
 -- What the comparison of the two enablers says.
 enablers : (c : tie.After-same) → c .same .result
     ≡ same
-    (bytesAt (c .before .before .before .before .before .before .before .args .enabler) secretSize
+    (bytesFrom (c .before .before .before .before .before .before .before .args .enabler) secretSize
     (c .before .before .before .before .before .before .before .args .q .now))
     (enablerOf (c .before .before .before .before .before .before .before .args .c .now))
 unfolding enablerOf
