@@ -1,6 +1,6 @@
 //! The four C-callable functions of the proved library, on slices.
 //!
-//! Everything `unsafe` of this crate stands here. The functions take any bytes, of any length;
+//! Everything `unsafe` of this library stands here. The functions take any bytes, of any length;
 //! a node's programmer will rather use [`Container`](crate::Container) and
 //! [`Share`](crate::Share).
 

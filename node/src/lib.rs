@@ -37,7 +37,8 @@
 //!   million cases; `BEAMSATCHEL_CASES` sets more, `BEAMSATCHEL_SEED` others.
 //! - `cargo run --release --bin beamsatchel-dump FILE...` tells in words what container files
 //!   hold, or why they are refused and at which byte.
-//! - `cargo run --release --bin beamsatchel-bench` times the library against plain Rust.
+//! - `cargo run --release --bin beamsatchel-bench` times the library against plain Rust, and with
+//!   `-- BEFORE.a AFTER.a` archives of the library against each other.
 //!
 //! The build links `target/staticlib/libbeamsatchel.a` of the repository, and makes it with
 //! `rt staticlib beamsatchel` where it is missing; `BEAMSATCHEL_ARCHIVE` names another.

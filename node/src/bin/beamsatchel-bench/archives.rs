@@ -10,6 +10,7 @@ use crate::contest::{contest, Side};
 use crate::work::{self, Player, Slot};
 use beamsatchel_node::ffi::{RawAnswer, RawShare};
 use std::cell::RefCell;
+use std::collections::HashSet;
 use std::ffi::{c_char, c_int, c_void, CStr, CString};
 use std::hint::black_box;
 use std::mem::transmute;
@@ -122,6 +123,12 @@ fn load_all(archives: &[String]) -> Vec<Library> {
             link(archive, shift, &object);
             libraries.push(Library::load(&object));
         }
+        let places = &libraries[libraries.len() - PLACES..];
+        let apart: HashSet<usize> = places
+            .iter()
+            .map(|one| one.apply as usize % BLOCK)
+            .collect();
+        assert_eq!(apart.len(), PLACES, "the linker moved {archive} elsewhere");
     }
     fs::remove_dir_all(&folder).expect("a folder of our own");
     libraries

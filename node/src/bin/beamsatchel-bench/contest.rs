@@ -19,8 +19,8 @@ impl Samples {
         median(self.0.clone())
     }
 
-    /// How many times as long as the other side, taken of samples that followed each other, so
-    /// that what slows the machine for a while slows both.
+    /// How many times as long as the other side, taken of samples of one round, so that what slows
+    /// the machine for a while slows both.
     pub fn over(&self, other: &Samples) -> f64 {
         median(self.0.iter().zip(&other.0).map(|(a, b)| a / b).collect())
     }
@@ -34,9 +34,15 @@ pub fn contest(sides: &mut [Side]) -> Vec<Samples> {
     let count = sides.len();
     let mut times = vec![Vec::new(); count];
     for sample in 0..SAMPLES {
-        // No side always comes after the same one, with the other's work still in the caches.
+        // Forward and backward by turns, so that no side always finds the same one's work in the
+        // caches.
         for turn in 0..count {
-            let side = (sample + turn) % count;
+            let place = if sample % 2 == 0 {
+                turn
+            } else {
+                count - 1 - turn
+            };
+            let side = (sample + place) % count;
             times[side].push(time(&mut sides[side], calls));
         }
     }

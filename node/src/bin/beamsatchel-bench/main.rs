@@ -2,6 +2,8 @@
 //! gives the same answers; or, where archives of the library are named, these against each other.
 //! Run by hand: `cargo run --release --bin beamsatchel-bench [-- BEFORE.a AFTER.a]`.
 
+#![deny(unsafe_code)]
+
 mod archives;
 mod contest;
 mod work;
@@ -33,6 +35,7 @@ fn against_rust() {
         "", "library", "plain Rust", "ratio"
     );
     for (name, slot, requests) in work::rows() {
+        // Each side has a container of its own.
         let mut library = Player::new(&slot, &requests);
         let mut rust = Player::new(&slot, &requests);
         row(
@@ -56,7 +59,7 @@ fn against_rust() {
     );
 }
 
-/// One row of the table: both sides, each on a container of its own.
+/// One row of the table.
 fn row(name: &str, library: impl FnMut(), rust: impl FnMut()) {
     let mut sides: [Side; 2] = [Box::new(library), Box::new(rust)];
     let times = contest(&mut sides);

@@ -72,7 +72,7 @@ impl Slot {
         })
     }
 
-    /// Renewals of the last lease, each with a later expiry.
+    /// Renewals of the last lease. Their expiries rise, so that after the first round none is later.
     pub fn renewals(&self) -> Vec<Vec<u8>> {
         (0..REQUESTS as u32)
             .map(|expiry| RenewLease {
