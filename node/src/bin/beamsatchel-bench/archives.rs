@@ -15,7 +15,7 @@ use std::ffi::{c_char, c_int, c_void, CStr, CString};
 use std::hint::black_box;
 use std::mem::transmute;
 use std::os::unix::ffi::OsStrExt;
-use std::path::Path;
+use std::path::{Path, PathBuf};
 use std::process::Command;
 use std::{env, fs, process};
 
@@ -43,28 +43,32 @@ struct Library {
 
 impl Library {
     /// Loads a shared object that holds the library.
-    fn load(object: &Path) -> Library {
+    fn load(object: &Path) -> Result<Library, String> {
         let path = CString::new(object.as_os_str().as_bytes()).expect("no zero byte");
         // SAFETY: the path ends with a zero byte. The library runs nothing when it is loaded, and is
         // never closed.
         let loaded = unsafe { dlopen(path.as_ptr(), NOW) };
-        assert!(!loaded.is_null(), "cannot load {}", object.display());
+        if loaded.is_null() {
+            return Err(format!("cannot load {}", object.display()));
+        }
         let find = |name: &CStr| {
             // SAFETY: the library is loaded, and the name ends with a zero byte.
             let found = unsafe { dlsym(loaded, name.as_ptr()) };
-            assert!(!found.is_null(), "the archive has no {name:?}");
-            found
+            if found.is_null() {
+                return Err(format!("the archive has no {name:?}"));
+            }
+            Ok(found)
         };
-        let apply = find(c"beamsatchel_apply");
-        let check_share = find(c"beamsatchel_check_share");
-        let check_container = find(c"beamsatchel_check_container");
+        let apply = find(c"beamsatchel_apply")?;
+        let check_share = find(c"beamsatchel_check_share")?;
+        let check_container = find(c"beamsatchel_check_container")?;
         // SAFETY: the types are those of include/beamsatchel.h.
         unsafe {
-            Library {
+            Ok(Library {
                 apply: transmute::<*mut c_void, Apply>(apply),
                 check_share: transmute::<*mut c_void, Check>(check_share),
                 check_container: transmute::<*mut c_void, Check>(check_container),
-            }
+            })
         }
     }
 
@@ -93,7 +97,7 @@ fn check(check: Check, bytes: &[u8]) {
 }
 
 /// Makes a shared object of the archive, its code `shift` bytes further on.
-fn link(archive: &str, shift: usize, object: &Path) {
+fn link(archive: &Path, shift: usize, object: &Path) -> Result<(), String> {
     let before = object.with_extension("s");
     let bytes = BLOCK + shift;
     let source = format!(
@@ -102,43 +106,70 @@ fn link(archive: &str, shift: usize, object: &Path) {
          .balign {BLOCK}
          .skip {bytes}, 0x90\n"
     );
-    fs::write(&before, source).expect("a file in our own folder");
+    fs::write(&before, source).map_err(|error| format!("{}: {error}", before.display()))?;
     let status = Command::new("cc")
         .args(["-shared", "-o"])
         .args([object, &before])
-        .args(["-Wl,--whole-archive", archive, "-Wl,--no-whole-archive"])
+        .arg("-Wl,--whole-archive")
+        .arg(archive)
+        .arg("-Wl,--no-whole-archive")
         .status()
-        .unwrap_or_else(|error| panic!("cannot run cc: {error}"));
-    assert!(status.success(), "cc cannot link {archive}");
+        .map_err(|error| format!("cannot run cc: {error}"))?;
+    if !status.success() {
+        return Err(format!("cc cannot link {}", archive.display()));
+    }
+    Ok(())
+}
+
+/// A folder that goes when it is dropped.
+struct Folder(PathBuf);
+
+impl Folder {
+    fn new() -> Result<Folder, String> {
+        let path = env::temp_dir().join(format!("beamsatchel-bench-{}", process::id()));
+        fs::create_dir_all(&path).map_err(|error| format!("{}: {error}", path.display()))?;
+        Ok(Folder(path))
+    }
+}
+
+impl Drop for Folder {
+    fn drop(&mut self) {
+        // Nobody is left to hear of a fault.
+        let _ = fs::remove_dir_all(&self.0);
+    }
 }
 
 /// Each archive at each place.
-fn load_all(archives: &[String]) -> Vec<Library> {
-    let folder = env::temp_dir().join(format!("beamsatchel-bench-{}", process::id()));
-    fs::create_dir(&folder).expect("a folder of our own");
+fn load_all(archives: &[PathBuf]) -> Result<Vec<Library>, String> {
+    let folder = Folder::new()?;
     let mut libraries = Vec::new();
     for archive in archives {
+        // Whole, so that cc takes no name for an option.
+        let archive =
+            fs::canonicalize(archive).map_err(|error| format!("{}: {error}", archive.display()))?;
         for shift in (0..BLOCK).step_by(BLOCK / PLACES) {
-            let object = folder.join(format!("{}.so", libraries.len()));
-            link(archive, shift, &object);
-            libraries.push(Library::load(&object));
+            let object = folder.0.join(format!("{}.so", libraries.len()));
+            link(&archive, shift, &object)?;
+            libraries.push(Library::load(&object)?);
         }
         let places = &libraries[libraries.len() - PLACES..];
         let apart: HashSet<usize> = places
             .iter()
             .map(|one| one.apply as usize % BLOCK)
             .collect();
-        assert_eq!(apart.len(), PLACES, "the linker moved {archive} elsewhere");
+        assert_eq!(apart.len(), PLACES, "the linker moved the code elsewhere");
     }
-    fs::remove_dir_all(&folder).expect("a folder of our own");
-    libraries
+    Ok(libraries)
 }
 
 /// Prints a row for each workload: nanoseconds for each archive, and how many times as long as the
 /// first.
-pub fn against_each_other(archives: &[String]) {
-    let libraries = load_all(archives);
+pub fn against_each_other(archives: &[PathBuf]) -> Result<(), String> {
+    let libraries = load_all(archives)?;
     println!("medians, ns per call, mean of {PLACES} places; how many times as long as the first");
+    for archive in archives {
+        println!("  {}", archive.display());
+    }
     for (name, slot, requests) in work::rows() {
         let player = RefCell::new(Player::new(&slot, &requests));
         row(&name, &libraries, |library| {
@@ -157,6 +188,7 @@ pub fn against_each_other(archives: &[String]) {
             check(library.check_container, &container);
         },
     );
+    Ok(())
 }
 
 fn row(name: &str, libraries: &[Library], call: impl Fn(&Library)) {

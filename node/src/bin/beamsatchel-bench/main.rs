@@ -1,6 +1,6 @@
 //! The library against plain Rust written for speed (`model::fast`), which makes every check and
 //! gives the same answers; or, where archives of the library are named, these against each other.
-//! Run by hand: `cargo run --release --bin beamsatchel-bench [-- BEFORE.a AFTER.a]`.
+//! Run by hand: `cargo run --release --bin beamsatchel-bench [-- BEFORE.a AFTER.a...]`.
 
 #![deny(unsafe_code)]
 
@@ -11,19 +11,22 @@ mod work;
 use beamsatchel_node::{ffi, model::fast};
 use contest::{contest, Side};
 use std::hint::black_box;
-use std::path::Path;
+use std::path::PathBuf;
 use work::{Player, Slot};
 
 fn main() {
-    let named: Vec<String> = std::env::args().skip(1).collect();
-    if let Some(name) = named.iter().find(|name| !Path::new(name).is_file()) {
-        eprintln!("{name} is no file; usage: beamsatchel-bench [BEFORE.a AFTER.a]");
+    let named: Vec<PathBuf> = std::env::args_os().skip(1).map(PathBuf::from).collect();
+    let done = match &named[..] {
+        [] => {
+            against_rust();
+            Ok(())
+        }
+        [_] => Err("one archive has nothing beside it".to_string()),
+        archives => archives::against_each_other(archives),
+    };
+    if let Err(fault) = done {
+        eprintln!("{fault}; usage: beamsatchel-bench [BEFORE.a AFTER.a...]");
         std::process::exit(2);
-    }
-    if named.is_empty() {
-        against_rust();
-    } else {
-        archives::against_each_other(&named);
     }
 }
 
