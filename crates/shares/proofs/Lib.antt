@@ -1,6 +1,3 @@
--- Laws of the share: boundaries in order, node numbers, the rows, what the checker answers; demand 1.
-pub mod BoundLaws
-pub mod NodeLaws
-pub mod RowLaws
+-- What the checker answers, and demand 1 of it.
 pub mod ShareLaws
 pub mod Demand1

@@ -12,13 +12,13 @@ use borrow.Author.Tests.{eqb-true, eqb-false, eq-eqb, ne-eqb}
 use Rattle.octets.proofs.ListLaws.{both}
 use Rattle.container.specs.Data.{lentOf, dataLent}
 use Rattle.container.proofs.DataLaws.{lends, lent-bytes}
-use Rattle.shares.specs.Bounds.{partOf}
-use Rattle.shares.specs.Header.{keyAt}
-use Rattle.shares.specs.Rows.{offsets, ordered, shareOutcome}
+use Rattle.share_format.specs.Bounds.{partOf}
+use Rattle.share_format.specs.Header.{keyAt}
+use Rattle.share_format.specs.Rows.{offsets, ordered, shareOutcome}
 use Rattle.shares.specs.Share.{boundsOf, checkedOf, checkedContainer, refused, boundsAt, checkedAt}
-use Rattle.shares.specs.Facts.{PartInside}
-use Rattle.shares.proofs.BoundLaws.{places, lastOf, in-order-parts}
-use Rattle.shares.proofs.RowLaws.{order-facts, outcome-ordered}
+use Rattle.share_format.specs.Facts.{PartInside}
+use Rattle.share_format.proofs.BoundLaws.{places, lastOf, in-order-parts}
+use Rattle.share_format.proofs.RowLaws.{order-facts, outcome-ordered}
 use Rattle.container.specs.declared.data.Lent.{Lent}
 use Rattle.shares.specs.declared.share.Checked.{Checked}
 

@@ -1,12 +1,10 @@
--- What is claimed of the share checks (demand 1), and what two of the definitions mean. Proved in proofs/.
+-- What is claimed of the share checks (demand 1). Proved in proofs/.
 use mathlib.Core.Path.{_≡_}
-use Prim.Native.Nat.{ℕ, suc, _+_, _%_, _≤_, _<_}
+use Prim.Native.Nat.{ℕ, suc, _+_, _<_}
 use mathlib.Core.List.{List, [], _∷_, _++_}
 use lib.ListN.{length, take}
 use Rattle.container.specs.Data.{lentOf, dataLent}
-use Rattle.shares.specs.Header.{keyAt}
-use Rattle.shares.specs.Nodes.{depth, power}
-use Rattle.shares.specs.Rows.{leastMultiple}
+use Rattle.share_format.specs.Header.{keyAt}
 use Rattle.shares.specs.Share.{checkedOf, sharePart, partAt, checkedContainer, containerPart, containerPartAt}
 use Rattle.octets.specs.Facts.{Among}
 
@@ -53,16 +51,3 @@ pub record Demand1Container (c : List ℕ) : Type 0 where
   -- accepted: the parts of the share that the data are, as parts of the container
   pub accepted : checkedContainer c .number ≡ 0 → (i : ℕ) → i < 6
       → (containerPart i c ≡ sharePart i (dataLent c)) × (containerPartAt i c ≡ lentOf c .from + partAt i (dataLent c))
-
--- m is the least multiple of k at or above n.
-pub record Least (k n m : ℕ) : Type 0 where
-  pub multiple : m % k ≡ 0
-  pub reaches : n ≤ m
-  pub least : (x : ℕ) → x % k ≡ 0 → n ≤ x → m ≤ x
-
-abbrev pub MultipleIsLeast : Type 0
-MultipleIsLeast = (k n : ℕ) → 0 < k → Least k n (leastMultiple k n)
-
--- The depth of the tree over n shares is the least c with n at most 2^c; n is a byte.
-abbrev pub DepthIsLeast : Type 0
-DepthIsLeast = (n : ℕ) → n ≤ 255 → (n ≤ power (depth n)) × ((c : ℕ) → n ≤ power c → depth n ≤ c)

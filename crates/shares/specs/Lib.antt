@@ -1,8 +1,4 @@
--- The SDMF share of document 01.
-pub mod Bounds
-pub mod Header
-pub mod Nodes
-pub mod Rows
+-- The check of the SDMF share of document 01.
 pub mod Share
 pub mod Facts
 pub mod Claims

@@ -5,9 +5,9 @@ use mathlib.Core.List.{List, [], _∷_, map}
 use lib.ListN.{getD, replicate}
 use lib.Dec.{eqb}
 use Rattle.container.specs.Data.{lentOf, dataLent}
-use Rattle.shares.specs.Bounds.{partOf}
-use Rattle.shares.specs.Header.{keyAt, signatureAt, chainAt, treeAt, shareDataAt, privateKeyAt, endAt}
-use Rattle.shares.specs.Rows.{shareOutcome}
+use Rattle.share_format.specs.Bounds.{partOf}
+use Rattle.share_format.specs.Header.{keyAt, signatureAt, chainAt, treeAt, shareDataAt, privateKeyAt, endAt}
+use Rattle.share_format.specs.Rows.{shareOutcome}
 use Rattle.shares.specs.declared.share.Checked.{Checked}
 
 -- The boundaries of the six parts: key, signature, chain, tree, share data, private key.

@@ -1,5 +1,2 @@
-// The layout of an SDMF share, on bare bytes or held as a container's data.
-mod header;
-mod nodes;
-mod rows;
+// The SDMF share checker, on bare bytes or on a container's data.
 pub mod share;

@@ -1,14 +1,15 @@
 // The checker: outcomes 0 and 21 to 29, and the six parts as parts of the caller's slice.
-use crate::header;
-use crate::rows;
+use share_format::header;
+use share_format::rows;
 ghost use mathlib.Core.Path.{_≡_};
 ghost use Prim.Native.Nat.{_+_, _<_};
 ghost use lib.ListN.{length, getD};
 ghost use Rattle.container.specs.Data.{beyond};
-ghost use Rattle.shares.specs.Bounds.{partOf};
+ghost use Rattle.share_format.specs.Bounds.{partOf};
 ghost use Rattle.shares.specs.Share.{refused, boundsAt, checkedAt, checkedOf, sharePart, partAt};
 ghost use Rattle.shares.specs.Share.{checkedContainer, containerPart, containerPartAt};
-ghost use Rattle.shares.specs.Facts.{OrderedOffsets, Fits64, PartInside};
+ghost use Rattle.share_format.specs.Facts.{OrderedOffsets, PartInside};
+ghost use Rattle.shares.specs.Facts.{Fits64};
 
 // The outcome's number, and the boundaries of the six parts (all 0 on a refusal).
 #[repr(C)]

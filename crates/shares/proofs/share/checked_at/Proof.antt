@@ -1,6 +1,6 @@
 -- A number other than 0 refuses; on 0 the offsets are in order, so the boundaries may be formed.
 use mathlib.Core.Path.{sym, _∙_}
-use Rattle.shares.proofs.RowLaws.{order-facts, outcome-ordered}
+use Rattle.share_format.proofs.RowLaws.{order-facts, outcome-ordered}
 use Rattle.shares.proofs.ShareLaws.{checked-refused, checked-zero}
 use borrow.Author.Needs.{needs}
 use Rattle.shares.proofs.share.checked_at.Statement.{statement}

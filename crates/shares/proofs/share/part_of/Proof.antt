@@ -1,6 +1,6 @@
 -- The part between two boundaries is what the definition takes.
 use Rattle.container.proofs.DataLaws.{beyond-is}
-use Rattle.shares.proofs.BoundLaws.{part-is}
+use Rattle.share_format.proofs.BoundLaws.{part-is}
 use borrow.Author.Needs.{needs}
 use Rattle.shares.proofs.share.part_of.Statement.{statement}
 use Rattle.shares.proofs.share.part_of.Tie as tie

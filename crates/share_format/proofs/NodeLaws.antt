@@ -1,0 +1,154 @@
+-- The hash chain's node numbers, one after the other, and the depth of the tree over the shares. Assumes nothing.
+use mathlib.Core.Path.{_≡_, refl, sym, ap}
+use mathlib.Core.Bool.{Bool, true, false, cond}
+use mathlib.Core.List.{List, [], _∷_}
+use Prim.Native.Nat.{ℕ, zero, suc, _+_, _*_, _-_, _≤_, _<_}
+use native.Mathlib.Nat.{not-suc-le-zero}
+use native.Mathlib.Numerals.{add-one}
+use native.Mathlib.Omega.{arith}
+use lib.Dec.{eqb, leb}
+use borrow.Author.Tests.{leb-true, leb-false, eq-eqb, ne-eqb, lt-ltb, le-ltb, le-leb, lt-leb}
+use Rattle.octets.specs.Numbers.{numberAt}
+use Rattle.share_format.specs.Nodes.{depthFrom, depth, power, chainEntrySize, nodesFrom, nodesOk}
+use Rattle.share_format.specs.Claims.{DepthIsLeast}
+use Rattle.octets.specs.Lists.{anyOf}
+
+-- ---- node numbers
+nodes-none : (n p : ℕ) (s : List ℕ) → n ≤ 0 → nodesFrom n p s ≡ []
+unfolding nodesFrom
+nodes-none zero p s h = refl
+nodes-none (suc n) p s h = absurd (not-suc-le-zero h)
+
+nodes-some : (n p : ℕ) (s : List ℕ) → 0 < n
+    → nodesFrom n p s ≡ numberAt 2 p s ∷ nodesFrom (n - 1) (p + chainEntrySize) s
+unfolding nodesFrom
+nodes-some zero p s h = absurd (not-suc-le-zero h)
+nodes-some (suc n) p s h =
+    let k : suc n - 1 ≡ n = omega arith in
+    rw k
+
+pub occurs-hit : (x n p : ℕ) (s : List ℕ) → 0 < n → x ≡ numberAt 2 p s → anyOf (eqb x) (nodesFrom n p s) ≡ true
+unfolding anyOf
+occurs-hit x n p s h e = rw (nodes-some n p s h, eq-eqb _ _ e)
+
+pub occurs-miss : (x n p : ℕ) (s : List ℕ) → 0 < n → (x ≡ numberAt 2 p s → ⊥)
+    → anyOf (eqb x) (nodesFrom n p s)
+    ≡ anyOf (eqb x) (nodesFrom (n - 1) (p + chainEntrySize) s)
+unfolding anyOf
+occurs-miss x n p s h e = rw (nodes-some n p s h, ne-eqb _ _ e)
+
+pub occurs-none : (x n p : ℕ) (s : List ℕ) → n ≤ 0 → anyOf (eqb x) (nodesFrom n p s) ≡ false
+unfolding anyOf
+occurs-none x n p s h = rw (nodes-none n p s h)
+
+-- The first of the node numbers, read as x, decides or leaves it to the others.
+pub nodes-high : (top x n p : ℕ) (s : List ℕ) → 0 < n → x ≡ numberAt 2 p s → top ≤ x
+    → nodesOk top (nodesFrom n p s) ≡ false
+unfolding nodesOk
+nodes-high top x n p s h e k = rw (nodes-some n p s h, ← e, le-ltb _ _ k)
+
+pub nodes-again : (top x n p : ℕ) (s : List ℕ) → 0 < n → x ≡ numberAt 2 p s → x < top
+    → anyOf (eqb x) (nodesFrom (n - 1) (p + chainEntrySize) s) ≡ true
+    → nodesOk top (nodesFrom n p s) ≡ false
+unfolding nodesOk
+nodes-again top x n p s h e k o = rw (nodes-some n p s h, ← e, lt-ltb _ _ k, o)
+
+pub nodes-more : (top x n p : ℕ) (s : List ℕ) → 0 < n → x ≡ numberAt 2 p s → x < top
+    → anyOf (eqb x) (nodesFrom (n - 1) (p + chainEntrySize) s) ≡ false
+    → nodesOk top (nodesFrom n p s) ≡ nodesOk top (nodesFrom (n - 1) (p + chainEntrySize) s)
+unfolding nodesOk
+nodes-more top x n p s h e k o = rw (nodes-some n p s h, ← e, lt-ltb _ _ k, o)
+
+pub nodes-end : (top n p : ℕ) (s : List ℕ) → n ≤ 0 → nodesOk top (nodesFrom n p s) ≡ true
+unfolding nodesOk
+nodes-end top n p s h = rw (nodes-none n p s h)
+
+-- ---- the depth of the tree over the shares
+pub power-next : (c : ℕ) → power (c + 1) ≡ 2 * power c
+unfolding power
+power-next c = ap power (add-one c)
+
+eight : power 8 ≡ 256
+unfolding power
+eight = refl
+
+one : power 0 ≡ 1
+unfolding power
+one = refl
+
+power-suc : (c : ℕ) → power (suc c) ≡ 2 * power c
+unfolding power
+power-suc c = refl
+
+above-other : (c d : ℕ) → c ≤ d → (c ≡ d → ⊥) → suc c ≤ d
+above-other c d l k = go (leb (suc c) d) refl
+  where
+    go : (t : Bool) → leb (suc c) d ≡ t → suc c ≤ d
+    go true e = leb-true _ _ e
+    go false e = absurd (k (omega (arith, leb-false (suc c) d e)))
+
+power-up : (c : ℕ) → power c ≤ power (suc c)
+unfolding power
+power-up c = omega arith
+
+power-rises : (c d : ℕ) → c ≤ d → power c ≤ power d
+power-rises c zero h = let k : c ≡ 0 = omega arith in rw k (omega arith)
+power-rises c (suc d) h = go (leb c d) refl (power-rises c d)
+  where
+    go : (t : Bool) → leb c d ≡ t → (c ≤ d → power c ≤ power d) → power c ≤ power (suc d)
+    go true e ih = omega (arith, ih (leb-true _ _ e), power-up d)
+    go false e ih = let k : c ≡ suc d = omega (arith, leb-false c d e) in rw k (omega arith)
+
+pub depth-stop : (more c p n : ℕ) → n ≤ p → depthFrom more c p n ≡ c
+unfolding depthFrom
+depth-stop zero c p n h = refl
+depth-stop (suc more) c p n h = rw (le-leb _ _ h)
+
+-- A turn of the loop: the fuel is what c lacks of 8.
+depth-step : (more m c p n : ℕ) → more ≡ suc m → p < n → depthFrom more c p n ≡ depthFrom m (c + 1) (2 * p) n
+unfolding depthFrom
+depth-step more m c p n e h = rw (e, lt-leb _ _ h, add-one)
+
+pub depth-small : (c p n : ℕ) → p ≡ power c → n < 256 → p < n → c < 8
+depth-small c p n e b h = go (leb 8 c) refl
+  where
+    go : (t : Bool) → leb 8 c ≡ t → c < 8
+    go true l = absurd (omega (arith, eight, power-rises 8 c (leb-true _ _ l)))
+    go false l = leb-false 8 c l
+
+pub depth-turn : (c p n : ℕ) → p ≡ power c → n < 256 → p < n
+    → depthFrom (8 - c) c p n ≡ depthFrom (8 - (c + 1)) (c + 1) (2 * p) n
+depth-turn c p n e b h = depth-step _ _ c p n (omega (arith, depth-small c p n e b h)) h
+
+from-enough : (more c p n : ℕ) → p ≡ power c → n ≤ power (c + more) → n ≤ power (depthFrom more c p n)
+unfolding depthFrom
+from-enough zero c p n e h = let k : c + 0 ≡ c = omega arith in rw k at h
+from-enough (suc more) c p n e h =
+    let k : suc c + more ≡ c + suc more = omega arith in
+    go (leb n p) refl (from-enough more (suc c) (2 * p) n (rw e (sym (power-suc c))) (rw k h))
+  where
+    go : (t : Bool) → leb n p ≡ t → n ≤ power (depthFrom more (suc c) (2 * p) n)
+        → n ≤ power (cond t c (depthFrom more (suc c) (2 * p) n))
+    go true l ih = omega (arith, leb-true n p l)
+    go false l ih = ih
+
+from-least : (more c p n d : ℕ) → p ≡ power c → n ≤ power d → c ≤ d → depthFrom more c p n ≤ d
+unfolding depthFrom
+from-least zero c p n d e h l = l
+from-least (suc more) c p n d e h l =
+    go (leb n p) refl (from-least more (suc c) (2 * p) n d (rw e (sym (power-suc c))) h)
+  where
+    go : (t : Bool) → leb n p ≡ t → (suc c ≤ d → depthFrom more (suc c) (2 * p) n ≤ d)
+        → cond t c (depthFrom more (suc c) (2 * p) n) ≤ d
+    go true k ih = l
+    go false k ih = ih (above-other c d l (λ q. omega (arith, leb-false n p k, ap power q)))
+
+pub depth-least : DepthIsLeast
+unfolding depth
+depth-least n h =
+    (from-enough 8 0 1 n (sym one) (omega (arith, eight)), λ c k. from-least 8 0 1 n c (sym one) k (omega arith))
+
+pub depth-bounds : (n : ℕ) → n < 256 → (depth n ≤ 8) × (1 ≤ power (depth n)) × (power (depth n) ≤ 256)
+depth-bounds n h =
+    let d = depth-least n (omega arith) .1 8 (omega (arith, eight)) in
+    (d, omega (arith, one, power-rises 0 (depth n) (omega arith)), omega (arith, eight, power-rises (depth n) 8 d))

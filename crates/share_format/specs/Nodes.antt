@@ -1,0 +1,35 @@
+-- The hash chain's node numbers, and the tree over the shares (row 26).
+use Prim.Native.Nat.{ℕ, zero, suc, _+_, _*_}
+use mathlib.Core.Bool.{Bool, true, cond, not, _&&_}
+use mathlib.Core.List.{List, [], _∷_}
+use lib.Dec.{eqb, leb, ltb}
+use Rattle.octets.specs.Numbers.{numberAt}
+use Rattle.share_format.specs.Header.{hashSize}
+use Rattle.octets.specs.Lists.{anyOf}
+
+-- The depth c is the least with 2^c >= N; N is a byte, so c is at most 8.
+unfoldable pub depthFrom : ℕ → ℕ → ℕ → ℕ → ℕ
+depthFrom zero c power n = c
+depthFrom (suc more) c power n = cond (leb n power) c (depthFrom more (suc c) (2 * power) n)
+
+unfoldable pub depth : ℕ → ℕ
+depth n = depthFrom 8 0 1 n
+
+-- 2^c.
+unfoldable pub power : ℕ → ℕ
+power zero = 1
+power (suc c) = 2 * power c
+
+-- An entry of the chain: a node number of 2 bytes, and its hash.
+abbrev pub chainEntrySize : ℕ
+chainEntrySize = 2 + hashSize
+
+-- The node numbers of n entries from p on.
+unfoldable pub nodesFrom : ℕ → ℕ → List ℕ → List ℕ
+nodesFrom zero p s = []
+nodesFrom (suc n) p s = numberAt 2 p s ∷ nodesFrom n (p + chainEntrySize) s
+
+-- No node number repeats, none is `top` or more.
+unfoldable pub nodesOk : ℕ → List ℕ → Bool
+nodesOk top [] = true
+nodesOk top (x ∷ xs) = ltb x top && (not (anyOf (eqb x) xs) && nodesOk top xs)
