@@ -4,20 +4,22 @@ use mathlib.Core.Bool.{Bool, true, false, cond, false≢true}
 use mathlib.Core.List.{List}
 use Prim.Native.Nat.{ℕ, zero, suc, _+_, _*_, _-_, _/_, _%_, _≤_, _<_}
 use native.Mathlib.Nat.{mod-lt, mod-le, div-add-mod', add-mod-right, mul-mod-left, mul-le-mul-right, suc-mul}
+use native.Mathlib.Numerals.{add-one}
 use native.Mathlib.Omega.{arith}
 use lib.Dec.{eqb, leb, ltb}
-use lib.ListN.{length}
+use lib.ListN.{length, getD}
 use borrow.Author.Tests.{eqb-true, eqb-false, ltb-true, ltb-false, leb-true, leb-false}
 use borrow.Author.Tests.{eq-eqb, ne-eqb, lt-ltb, le-leb, not-false}
 use Rattle.octets.specs.Facts.{Each}
 use Rattle.octets.proofs.ListLaws.{both, by-refuting}
 use Rattle.octets.specs.Rows.{firstRow}
 use Rattle.share_format.specs.Bounds.{inOrder}
-use Rattle.share_format.specs.Header.{required, total, keyAt, signatureAt, chainAt, treeAt, shareDataAt, privateKeyAt}
-use Rattle.share_format.specs.Header.{endAt}
-use Rattle.share_format.specs.Rows.{leastMultiple, ordered, headRows, bodyRows, shareOutcome}
-use Rattle.share_format.specs.Facts.{OrderedOffsets}
+use Rattle.share_format.specs.Header.{required, total, keyAt, signatureAt, chainAt, treeAt, shareDataAt}
+use Rattle.share_format.specs.Header.{privateKeyAt, endAt, boundsOf}
+use Rattle.share_format.specs.Rows.{leastMultiple, offsets, ordered, headRows, bodyRows, shareOutcome}
+use Rattle.share_format.specs.Facts.{OrderedOffsets, PartInside}
 use Rattle.share_format.specs.Claims.{Least, MultipleIsLeast}
+use Rattle.share_format.proofs.BoundLaws.{places, lastOf, in-order-parts}
 use Rattle.octets.proofs.RowLaws.{rows-append, clear}
 
 -- ---- row 24
@@ -112,6 +114,22 @@ pub order-last : (s : List ℕ)
     → ordered s ≡ eqb (endAt s) (length s)
 unfolding ordered inOrder
 order-last s a b c d e f = rw (lt-ltb _ _ a, lt-ltb _ _ b, le-leb _ _ c, le-leb _ _ d, le-leb _ _ e, lt-ltb _ _ f)
+
+-- The boundaries of the parts.
+pub first-bound : (s : List ℕ) → getD (boundsOf s) 0 0 ≡ keyAt
+unfolding boundsOf
+first-bound s = refl
+
+pub last-bound : (s : List ℕ) → ordered s ≡ true → getD (boundsOf s) 6 0 ≡ length s
+unfolding boundsOf
+last-bound s e = order-facts s e .whole
+
+pub bounds-inside : (s : List ℕ) (i : ℕ) → ordered s ≡ true → i < 6 → PartInside (boundsOf s) (length s) i
+unfolding ordered boundsOf places lastOf
+bounds-inside s i e h =
+    let o = both _ _ e in
+    let p = in-order-parts keyAt (offsets s) s (o .0) (eqb-true _ _ (o .1)) i h in
+    record { rises = rw add-one (p .0); fits = rw add-one (p .1) }
 
 -- ---- the numbers
 head-numbered : (s : List ℕ) → Each (λ r. 0 < r .number) (headRows s)

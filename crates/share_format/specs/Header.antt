@@ -1,6 +1,6 @@
 -- The header of an SDMF share (document 01, "The SDMF share"), field by field.
 use Prim.Native.Nat.{ℕ}
-use mathlib.Core.List.{List}
+use mathlib.Core.List.{List, [], _∷_}
 use lib.ListN.{getD}
 use Rattle.octets.specs.Numbers.{numberAt}
 
@@ -48,3 +48,7 @@ privateKeyAt s = numberAt 8 91 s
 
 abbrev pub endAt : List ℕ → ℕ
 endAt s = numberAt 8 99 s
+
+-- The boundaries of the six parts: key, signature, chain, tree, share data, private key.
+unfoldable pub boundsOf : List ℕ → List ℕ
+boundsOf s = keyAt ∷ signatureAt s ∷ chainAt s ∷ treeAt s ∷ shareDataAt s ∷ privateKeyAt s ∷ endAt s ∷ []

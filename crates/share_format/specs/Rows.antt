@@ -6,8 +6,8 @@ use lib.ListN.{length}
 use lib.Dec.{eqb, ltb}
 use Rattle.octets.specs.Rows.{Row, row, firstRow}
 use Rattle.share_format.specs.Bounds.{Bound, above, from, inOrder}
-use Rattle.share_format.specs.Header.{hashSize, version, sequence, required, total, segmentSize, dataLength, keyAt}
-use Rattle.share_format.specs.Header.{signatureAt, chainAt, treeAt, shareDataAt, privateKeyAt, endAt}
+use Rattle.share_format.specs.Header.{hashSize, version, sequence, required, total, segmentSize, dataLength}
+use Rattle.share_format.specs.Header.{keyAt, signatureAt, chainAt, treeAt, shareDataAt, privateKeyAt, endAt}
 use Rattle.share_format.specs.Nodes.{depth, power, chainEntrySize, nodesFrom, nodesOk}
 
 -- Row 24: the least multiple of k at or above n.

@@ -13,17 +13,17 @@ use Rattle.octets.proofs.ListLaws.{part-part}
 use Rattle.container.specs.Data.{lentOf, dataLent}
 use Rattle.container.proofs.DataLaws.{lends, lent-number}
 use Rattle.share_format.specs.Bounds.{partOf}
-use Rattle.share_format.specs.Header.{keyAt, endAt}
+use Rattle.share_format.specs.Header.{keyAt, endAt, boundsOf}
 use Rattle.share_format.specs.Rows.{headRows, bodyRows, shareOutcome}
-use Rattle.shares.specs.Share.{boundsOf, checkedOf, checkedContainer, sharePart, partAt}
+use Rattle.shares.specs.Share.{checkedOf, checkedContainer, sharePart, partAt}
 use Rattle.shares.specs.Share.{containerPart, containerPartAt}
 use Rattle.share_format.specs.Facts.{PartInside}
 use Rattle.shares.specs.Claims.{shareNumbers, containerNumbers, InTurn, Demand1Share, Demand1Container}
 use Rattle.shares.proofs.ShareLaws.{checked-number, checked-refused, checked-bounds, none-empty}
-use Rattle.shares.proofs.ShareLaws.{bounds-inside, first-bound, last-bound, bounds-moved, container-refused}
+use Rattle.shares.proofs.ShareLaws.{bounds-moved, container-refused}
 use Rattle.shares.proofs.ShareLaws.{container-zero, container-none, container-shares}
 use Rattle.share_format.proofs.BoundLaws.{risen, part-length, part-on}
-use Rattle.share_format.proofs.RowLaws.{order-facts, outcome-ordered}
+use Rattle.share_format.proofs.RowLaws.{order-facts, first-bound, last-bound, bounds-inside, outcome-ordered}
 use Rattle.octets.specs.Lists.{anyOf}
 
 -- ---- the number is one of the rows'

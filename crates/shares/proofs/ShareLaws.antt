@@ -4,21 +4,18 @@ use mathlib.Core.Bool.{Bool, true, false, cond}
 use mathlib.Core.List.{List, [], _∷_, map}
 use Prim.Native.Nat.{ℕ, zero, suc, _+_, _-_, _≤_, _<_}
 use native.Mathlib.Nat.{not-suc-le-zero, zero-add}
-use native.Mathlib.Numerals.{add-one}
 use native.Mathlib.Omega.{arith}
 use lib.Dec.{eqb}
 use lib.ListN.{length, take, drop, getD, getD-replicate}
 use borrow.Author.Tests.{eqb-true, eqb-false, eq-eqb, ne-eqb}
-use Rattle.octets.proofs.ListLaws.{both}
 use Rattle.container.specs.Data.{lentOf, dataLent}
 use Rattle.container.proofs.DataLaws.{lends, lent-bytes}
 use Rattle.share_format.specs.Bounds.{partOf}
-use Rattle.share_format.specs.Header.{keyAt}
-use Rattle.share_format.specs.Rows.{offsets, ordered, shareOutcome}
-use Rattle.shares.specs.Share.{boundsOf, checkedOf, checkedContainer, refused, boundsAt, checkedAt}
+use Rattle.share_format.specs.Header.{boundsOf}
+use Rattle.share_format.specs.Rows.{shareOutcome}
+use Rattle.shares.specs.Share.{checkedOf, checkedContainer, refused, boundsAt, checkedAt}
 use Rattle.share_format.specs.Facts.{PartInside}
-use Rattle.share_format.proofs.BoundLaws.{places, lastOf, in-order-parts}
-use Rattle.share_format.proofs.RowLaws.{order-facts, outcome-ordered}
+use Rattle.share_format.proofs.RowLaws.{bounds-inside, outcome-ordered}
 use Rattle.container.specs.declared.data.Lent.{Lent}
 use Rattle.shares.specs.declared.share.Checked.{Checked}
 
@@ -94,21 +91,6 @@ container-shares c z = go (eqb (lentOf c .number) 0) refl
     go false e = absurd (eqb-false _ _ e (rw (container-refused c (eqb-false _ _ e)) at z))
 
 -- ---- the parts
-pub first-bound : (s : List ℕ) → getD (boundsOf s) 0 0 ≡ keyAt
-unfolding boundsOf
-first-bound s = refl
-
-pub last-bound : (s : List ℕ) → ordered s ≡ true → getD (boundsOf s) 6 0 ≡ length s
-unfolding boundsOf
-last-bound s e = order-facts s e .whole
-
-pub bounds-inside : (s : List ℕ) (i : ℕ) → ordered s ≡ true → i < 6 → PartInside (boundsOf s) (length s) i
-unfolding ordered boundsOf places lastOf
-bounds-inside s i e h =
-    let o = both _ _ e in
-    let p = in-order-parts keyAt (offsets s) s (o .0) (eqb-true _ _ (o .1)) i h in
-    record { rises = rw add-one (p .0); fits = rw add-one (p .1) }
-
 none-inside : (m n i : ℕ) → i < 6 → PartInside (refused m .bounds) n i
 none-inside m n i h =
     let a = getD-replicate {A = ℕ} 7 i 0 0 (omega arith) in

@@ -1,20 +1,16 @@
 -- What the checker answers for a share's bytes, and for a container that holds a share as its data.
 use Prim.Native.Nat.{ℕ, _+_}
 use mathlib.Core.Bool.{cond}
-use mathlib.Core.List.{List, [], _∷_, map}
+use mathlib.Core.List.{List, map}
 use lib.ListN.{getD, replicate}
 use lib.Dec.{eqb}
 use Rattle.container.specs.Data.{lentOf, dataLent}
 use Rattle.share_format.specs.Bounds.{partOf}
-use Rattle.share_format.specs.Header.{keyAt, signatureAt, chainAt, treeAt, shareDataAt, privateKeyAt, endAt}
+use Rattle.share_format.specs.Header.{boundsOf}
 use Rattle.share_format.specs.Rows.{shareOutcome}
 use Rattle.shares.specs.declared.share.Checked.{Checked}
 
--- The boundaries of the six parts: key, signature, chain, tree, share data, private key.
-unfoldable pub boundsOf : List ℕ → List ℕ
-boundsOf s = keyAt ∷ signatureAt s ∷ chainAt s ∷ treeAt s ∷ shareDataAt s ∷ privateKeyAt s ∷ endAt s ∷ []
-
--- The same, counted from the start of a slice in which the share begins at byte `base`.
+-- The boundaries of the six parts, counted from the start of a slice in which the share begins at byte `base`.
 unfoldable pub boundsAt : ℕ → List ℕ → List ℕ
 boundsAt base s = map (λ b. base + b) (boundsOf s)
 
