@@ -17,6 +17,9 @@ ghost use lib.ListN.{length};
 // A little more than the limit, so that a container and a request that are one byte too long can be replayed.
 const BUFFER_SIZE: usize = LIMIT + 4;
 
+// The longest reply space that a line can name.
+const REPLY_SIZE: usize = 8192;
+
 // What lines before this one have set: the lengths of the container, the request, the node id and the enabler, which
 // stand at the front of their buffers, and the last answer. A length never exceeds its buffer; `clip` spares the
 // proof of it.
@@ -139,27 +142,27 @@ fn bytes(s: &[u8], at: usize, st: State, q: &mut [u8]) -> Step
     }
 }
 
-// The reply space is filled with AA, so that bytes that nobody wrote can be told.
 fn run_request(st: State, c: &mut [u8], q: &[u8], r: &mut [u8]) -> u32 {
-    items::fill(r, 170);
     let n = clip(st.length, c);
     let x = container::requesting::apply(&mut c[..n], q, r);
     showing::applied(q, x, r);
     x.number
 }
 
-fn apply(s: &[u8], at: usize, st: State, c: &mut [u8], q: &[u8], r: &mut [u8]) -> Step
+// The reply space holds AA at first, so that bytes that nobody wrote can be told.
+fn apply(s: &[u8], at: usize, st: State, c: &mut [u8], q: &[u8]) -> Step
     requires { ⌜ at ≤ length (now s) ⌝ }
 {
     let open = st.open;
     if !open {
         return Step::Stop(Fault::NoBuffer);
     }
-    match commands::only_number(s, at, 8192) {
+    match commands::only_number(s, at, REPLY_SIZE as u32) {
         Argument::Bad(f) => Step::Stop(f),
         Argument::Number(n) => {
+            let mut r = [170u8; REPLY_SIZE];
             let k = clip(st.request, q);
-            let m = clip(n as usize, r);
+            let m = clip(n as usize, &r);
             let mut next = st;
             next.request = 0;
             next.last = run_request(st, c, &q[..k], &mut r[..m]);
@@ -198,7 +201,6 @@ fn run_word(
     st: State,
     c: &mut [u8],
     q: &mut [u8],
-    r: &mut [u8],
     node_id: &mut [u8],
     secret: &mut [u8],
 ) -> Step
@@ -211,7 +213,7 @@ fn run_word(
         Word::Enabler => enabler(s, at, st, secret),
         Word::Create => create(s, at, st, c, node_id, secret),
         Word::Bytes => bytes(s, at, st, q),
-        Word::Apply => apply(s, at, st, c, q, r),
+        Word::Apply => apply(s, at, st, c, q),
         Word::Expect => expect(s, at, st),
         Word::Say => {
             say(s, at);
@@ -226,51 +228,13 @@ fn run_line(
     st: State,
     c: &mut [u8],
     q: &mut [u8],
-    r: &mut [u8],
     node_id: &mut [u8],
     secret: &mut [u8],
 ) -> Step {
     match commands::command_of(s) {
         Command::Nothing => Step::On(st),
-        Command::Do(w, at) => run_word(w, s, at, st, c, q, r, node_id, secret),
+        Command::Do(w, at) => run_word(w, s, at, st, c, q, node_id, secret),
     }
-}
-
-// Runs all lines, or stops with a message.
-fn run_lines(
-    name: &[u8],
-    t: &[u8],
-    c: &mut [u8],
-    q: &mut [u8],
-    r: &mut [u8],
-    node_id: &mut [u8],
-    secret: &mut [u8],
-) -> Step {
-    let mut st = State {
-        open: false,
-        length: 0,
-        request: 0,
-        node: 0,
-        enabler: 0,
-        last: 99,
-    };
-    let mut line: u64 = 0;
-    let mut at = 0;
-    while at < t.len() {
-        let e = scanning::run_end(t, at, Sort::But(10));
-        line += 1;
-        match run_line(&t[at..e], st, c, q, r, node_id, secret) {
-            Step::On(next) => {
-                st = next;
-            }
-            Step::Stop(f) => {
-                showing::fault(name, line, f);
-                return Step::Stop(f);
-            }
-        }
-        at = e + 1;
-    }
-    Step::On(st)
 }
 
 // The end of a file: a request must not be left over.
@@ -284,26 +248,46 @@ fn finish(name: &[u8], st: State, c: &[u8]) -> bool {
     true
 }
 
-fn run_all(
+// Runs all lines to the end of the file, or stops with a message.
+fn run_lines(
     name: &[u8],
     t: &[u8],
     c: &mut [u8],
     q: &mut [u8],
-    r: &mut [u8],
     node_id: &mut [u8],
     secret: &mut [u8],
 ) -> bool {
-    match run_lines(name, t, c, q, r, node_id, secret) {
-        Step::Stop(_) => false,
-        Step::On(st) => finish(name, st, c),
+    let mut st = State {
+        open: false,
+        length: 0,
+        request: 0,
+        node: 0,
+        enabler: 0,
+        last: 99,
+    };
+    let mut line: u64 = 0;
+    let mut at = 0;
+    while at < t.len() {
+        let e = scanning::run_end(t, at, Sort::But(10));
+        line += 1;
+        match run_line(&t[at..e], st, c, q, node_id, secret) {
+            Step::On(next) => {
+                st = next;
+            }
+            Step::Stop(f) => {
+                showing::fault(name, line, f);
+                return false;
+            }
+        }
+        at = e + 1;
     }
+    finish(name, st, c)
 }
 
 pub(crate) fn run_text(name: &[u8], t: &[u8]) -> bool {
     let mut c = [0u8; BUFFER_SIZE];
     let mut q = [0u8; BUFFER_SIZE];
-    let mut r = [0u8; 8192];
     let mut node_id = [0u8; 64];
     let mut secret = [0u8; 64];
-    run_all(name, t, &mut c, &mut q, &mut r, &mut node_id, &mut secret)
+    run_lines(name, t, &mut c, &mut q, &mut node_id, &mut secret)
 }

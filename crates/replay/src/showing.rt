@@ -351,10 +351,7 @@ pub(crate) fn share(c: &[u8]) {
 }
 
 // Why a line was refused.
-pub(crate) fn fault(name: &[u8], line: u64, f: Fault) {
-    write(name);
-    write(b", line ");
-    number(line);
+fn reason(f: Fault) {
     match f {
         Fault::Word => write(b": the line begins with no word that is known\n"),
         Fault::NoNumber => write(b": a decimal number is missing\n"),
@@ -367,4 +364,12 @@ pub(crate) fn fault(name: &[u8], line: u64, f: Fault) {
         Fault::Begun => write(b": a request was begun and not applied\n"),
         Fault::Answer => write(b": the last answer was another\n"),
     }
+}
+
+// The file and the line that was refused, and why.
+pub(crate) fn fault(name: &[u8], line: u64, f: Fault) {
+    write(name);
+    write(b", line ");
+    number(line);
+    reason(f);
 }

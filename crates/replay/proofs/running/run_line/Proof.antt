@@ -13,8 +13,8 @@ enum-known-w : tie.Need-enum-known-w
 enum-known-w c = search needs
 
 run-word-requires : tie.Need-run-word-requires
-run-word-requires c κs = rw (c .before .before .before .before .before .before .w .given .1) at
-    (c .before .before .before .before .before .before .before .before .command-of .ensures .1)
+run-word-requires c κs = rw (c .before .before .before .before .before .w .given .1) at
+    (c .before .before .before .before .before .before .before .command-of .ensures .1)
 
 returns : tie.Need-returns
 returns c = search needs
@@ -30,9 +30,6 @@ same-length-3 c = search needs
 
 same-length-4 : tie.Need-same-length-4
 same-length-4 c = search needs
-
-same-length-5 : tie.Need-same-length-5
-same-length-5 c = search needs
 
 returns-2 : tie.Need-returns-2
 returns-2 c = search needs
@@ -50,5 +47,4 @@ run-line-spec =
     same-length-2
     same-length-3
     same-length-4
-    same-length-5
     returns-2)
