@@ -1,5 +1,3 @@
 -- Laws about whole requests, which the proofs of this crate and of those above cite.
 pub mod DataLaws
 pub mod LeaseRequestLaws
-pub mod ReadLaws
-pub mod RefusalLaws

@@ -1,3 +1,2 @@
--- What the operations' contracts cite beside the rules.
+-- What is lent to the crates above.
 pub mod Data
-pub mod Reading

@@ -1,5 +1,4 @@
 // One container in a lent buffer: apply requests to it, and lend its data. Nobody who calls is trusted to have checked
 // anything.
 pub mod data;
-mod reading;
 pub mod requesting;

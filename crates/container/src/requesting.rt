@@ -2,7 +2,6 @@
 ghost use mathlib.Core.Path.{_≡_};
 ghost use Rattle.format.specs.Judging.{Known};
 ghost use Rattle.rules.specs.Outcomes.{answered, containerAfter, replyAfter};
-use crate::reading::read;
 use format::judging::Judged;
 use format::layout::Frame;
 use format::layout::RECORD_SIZE;
@@ -10,10 +9,11 @@ use format::layout::SECRET_SIZE;
 use leases::operations::add_lease;
 use leases::operations::cancel_lease;
 use leases::operations::renew_lease;
+use reading::read;
 use requests::forms::Form;
 use rules::Answer;
 use rules::answers::answer;
-use verdicts::writing::test_and_write;
+use writing::test_and_write;
 
 // By the form of the request.
 fn apply_formed(c: &mut [u8], frame: Frame, q: &[u8], r: &mut [u8]) -> Answer

@@ -5,6 +5,7 @@ pub mod LeaseLaws
 pub mod Kept
 pub mod RequestLaws
 pub mod OutcomeLaws
+pub mod RefusalLaws
 pub mod NumberLaws
 pub mod ReplyLaws
 pub mod EdgeTable

@@ -1,3 +1,2 @@
 -- Laws of the verdict, which the proofs of this crate and of those above cite.
 pub mod VerdictLaws
-pub mod WriteRequestLaws

@@ -2,12 +2,11 @@
 use Prim.Native.Nat.{ℕ}
 use mathlib.Core.Path.{_≡_}
 use mathlib.Core.List.{List, _++_}
-use mathlib.Core.Option.{some}
 use lib.ListN.{length}
 use Rattle.octets.specs.Rows.{firstRow}
 use Rattle.format.specs.Parts.{Parts, partsOf}
 use Rattle.format.specs.Judging.{Known}
-use Rattle.rules.specs.Requests.{Request, requestOf}
+use Rattle.rules.specs.Requests.{Request}
 use Rattle.rules.specs.Outcomes.{after, replyTo, rows, roomRows}
 use Rattle.requests.specs.Forms.{PartedIn, writeIn}
 use Rattle.format.specs.declared.layout.Frame.{Frame}
@@ -28,8 +27,3 @@ pub record Decided (c q : List ℕ) (f : Frame) (t : Parted) (v : Verdict) : Typ
   pub parted : PartedIn q t
   pub space : ℕ
   pub verdict : v ≡ verdictOf (partsOf c) (writeIn t q) space
-
--- A test-and-write whose form is known.
-pub record WriteRequest (q : List ℕ) (t : Parted) : Type 0 where
-  pub parted : PartedIn q t
-  pub is : requestOf q ≡ some (writeIn t q)

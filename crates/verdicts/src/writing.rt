@@ -1,5 +1,5 @@
-// Kind 1 on a well-formed container: the verdict, what a verdict of 0 makes of the container, and both with reply and
-// answer. Each asks for a judged container and a parted request instead of judging again.
+// Kind 1 on a well-formed container: the verdict, and what a verdict of 0 makes of the container. Both ask for a judged
+// container and a parted request instead of judging again.
 ghost use mathlib.Core.Path.{_≡_};
 ghost use mathlib.Core.Bool.{not};
 ghost use mathlib.Core.List.{[], _∷_};
@@ -13,10 +13,10 @@ ghost use Rattle.format.specs.Layout.{least, secretSize, enablerOf};
 ghost use Rattle.format.specs.Parts.{partsOf, encode};
 ghost use Rattle.format.specs.Judging.{Known};
 ghost use Rattle.rules.specs.Testing.{holds};
-ghost use Rattle.rules.specs.Outcomes.{after, replies, answered, containerAfter, replyAfter};
+ghost use Rattle.rules.specs.Outcomes.{after};
 ghost use Rattle.requests.specs.Cursors.{bytesFrom};
 ghost use Rattle.requests.specs.Forms.{BytesIn, PartedIn, testsIn, writeIn};
-ghost use Rattle.verdicts.specs.Writing.{verdictOf, Decided, WriteRequest};
+ghost use Rattle.verdicts.specs.Writing.{verdictOf, Decided};
 use format::layout::DATA_AT;
 use format::layout::ENABLER_AT;
 use format::layout::Frame;
@@ -24,9 +24,6 @@ use format::layout::SECRET_SIZE;
 use format::layout::SIZE_AT;
 use requests::cursors::Cursor;
 use requests::forms::Parted;
-use rules::Answer;
-use rules::answers::answer;
-use rules::answers::enabler_differs;
 
 // The outcome's number, the reply's length and the final size of the data.
 pub struct Verdict {
@@ -118,37 +115,4 @@ pub fn commit(c: &mut [u8], frame: Frame, q: &[u8], t: Parted, v: Verdict)
     ensures { λ _. ⌜ now (c .exit) ≡ encode (after (partsOf (now (c .entry))) (writeIn t (now (q .entry)))) ⌝ }
 {
     writes::rewrite::rewrite(c, frame, q, t, v.size);
-}
-
-// A reply is written on 0 and 8 only.
-fn reports(number: u32) -> bool
-    ensures { λ r. ⌜ r ≡ replies number ⌝ }
-{
-    if number == 0 {
-        return true;
-    }
-    number == 8
-}
-
-pub fn test_and_write(c: &mut [u8], frame: Frame, q: &[u8], t: Parted, r: &mut [u8]) -> Answer
-    requires { ⌜ Known (now c) frame × WriteRequest (now q) t ⌝ }
-    ensures { λ x. ⌜ x ≡ answered (now (c .entry)) (now (q .entry)) (now (r .entry)) ⌝ }
-    ensures { λ _. ⌜ now (c .exit) ≡ containerAfter (now (c .entry)) (now (q .entry)) (now (r .entry)) ⌝ }
-    ensures { λ _. ⌜ now (r .exit) ≡ replyAfter (now (c .entry)) (now (q .entry)) (now (r .entry)) ⌝ }
-{
-    let verdict = verdict_of(c, frame, q, t, r.len());
-    let number = verdict.number;
-    if number == 5 {
-        return enabler_differs(c);
-    }
-    if !reports(number) {
-        return answer(number, 0);
-    }
-    let to = frame.data_end();
-    replies::reply::write_reply(&c[DATA_AT..to], q, t.tests, r);
-    if number == 8 {
-        return answer(8, verdict.reply);
-    }
-    commit(c, frame, q, t, verdict);
-    answer(0, verdict.reply)
 }

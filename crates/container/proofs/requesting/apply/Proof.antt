@@ -2,7 +2,7 @@
 use mathlib.Core.Path.{subst, _∙_}
 use Rattle.format.specs.Judging.{Judges}
 use Rattle.format.proofs.JudgingLaws.{judged-formed, judged-malformed, judged-length}
-use Rattle.container.proofs.RefusalLaws.{bad-length, malformed}
+use Rattle.rules.proofs.RefusalLaws.{bad-length, malformed}
 use borrow.Author.Needs.{needs}
 use Rattle.container.proofs.requesting.apply.Statement.{statement}
 use Rattle.container.proofs.requesting.apply.Tie as tie

@@ -13,9 +13,9 @@ use Rattle.requests.specs.Forms.{Takes}
 use Rattle.requests.specs.Cursors.{bytesFrom}
 use Rattle.requests.proofs.CursorLaws.{bytes-length, body-in, body-is}
 use Rattle.leases.specs.Operations.{leaseDone, leaseContainer}
-use Rattle.container.proofs.RefusalLaws.{broken}
+use Rattle.rules.proofs.RefusalLaws.{broken}
 use Rattle.container.proofs.LeaseRequestLaws.{lease-results}
-use Rattle.container.proofs.ReadLaws.{read-container}
+use Rattle.reading.proofs.ReadLaws.{read-container}
 use borrow.Author.Needs.{needs}
 use Rattle.container.proofs.requesting.apply_formed.Statement.{statement}
 use Rattle.container.proofs.requesting.apply_formed.Tie as tie

@@ -10,8 +10,9 @@ use borrow.Author.Tests.{ltb-false, ne-eqb, eqb-true}
 use Rattle.format.specs.declared.layout.Frame.{Frame}
 use Rattle.rules.specs.declared.Answer.{Answer}
 use Rattle.requests.specs.declared.forms.Parted.{Parted}
 use Rattle.verdicts.specs.declared.writing.Verdict.{Verdict}
-use Rattle.verdicts.specs.Writing.{Decided, verdictOf, WriteRequest}
+use Rattle.verdicts.specs.Writing.{Decided, verdictOf}
+use Rattle.writing.specs.Writing.{WriteRequest}
 use Rattle.format.specs.Judging.{Known}
 use Rattle.octets.specs.Rows.{Row, firstRow, row}
 use Rattle.rules.specs.Outcomes.{after, answered, replies, replyTo, requestRows, rows, admitRows, answerOf}

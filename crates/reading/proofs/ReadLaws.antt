@@ -14,7 +14,7 @@ use Rattle.format.specs.declared.layout.Frame.{Frame}
 use Rattle.rules.specs.declared.Answer.{Answer}
 use Rattle.requests.specs.declared.forms.Table.{Table}
 use Rattle.replies.specs.declared.pieces.Measured.{Measured}
-use Rattle.container.proofs.RefusalLaws.{Silent, silent-refused}
+use Rattle.rules.proofs.RefusalLaws.{Silent, silent-refused}
 use Rattle.format.specs.Judging.{Known}
 use Rattle.octets.specs.Lists.{anyOf, every, maybe}
 use Rattle.rules.specs.Outcomes.{containerAfter, outcome, replyTo, afterOf, answerOf, replies, requestRows, answered}
@@ -24,7 +24,7 @@ use Rattle.octets.specs.Rows.{firstRow, row}
 use Rattle.format.specs.Parts.{partsOf, encode}
 use Rattle.replies.specs.Pieces.{piecesIn, measuredOf}
 use Rattle.rules.specs.Testing.{replyOf, exceeds, readPiece, resolves}
-use Rattle.container.specs.Reading.{ReadRequest}
+use Rattle.reading.specs.Reading.{ReadRequest}
 use Rattle.requests.specs.Forms.{readIn}
 use Rattle.format.specs.Layout.{dataOf}
 use Rattle.octets.specs.Facts.{Octets}

@@ -1,8 +1,8 @@
 -- The two tests are those of `replies`.
 use borrow.Author.Tests.{ne-eqb}
 use Rattle.rules.specs.Outcomes.{replies}
-use Rattle.verdicts.proofs.writing.reports.Statement.{statement}
-use Rattle.verdicts.proofs.writing.reports.Tie as tie
+use Rattle.writing.proofs.reports.Statement.{statement}
+use Rattle.writing.proofs.reports.Tie as tie
 
 returns : tie.Need-returns
 unfolding replies

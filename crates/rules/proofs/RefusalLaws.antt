@@ -8,11 +8,11 @@ use lib.ListN.{length}
 use lib.Dec.{eqb}
 use Rattle.format.specs.Container.{lengthAllowed, wellFormed}
 use Rattle.format.specs.Parts.{Parts, partsOf}
 use Rattle.rules.specs.Requests.{Request, requestOf}
 use Rattle.octets.specs.Rows.{firstRow}
-use Rattle.rules.specs.Outcomes.{requestRows, replies, answerOf, noNode, answerTo, outcome, answered, containerAfter}
-use Rattle.rules.specs.Outcomes.{replyAfter}
+use Rattle.rules.specs.Outcomes.{requestRows, replies, answerOf, noNode, answerTo, outcome, answered}
+use Rattle.rules.specs.Outcomes.{containerAfter, replyAfter}
 use Rattle.rules.proofs.OutcomeLaws.{outcome-formed}
 
 -- A call that is answered n, with no node id and no count, and leaves container and reply space as they were.
 pub record Refused (n : ℕ) (c q r : List ℕ) : Type 0 where

@@ -2,11 +2,11 @@
 use native.Mathlib.Omega.{arith}
 use borrow.Author.Tests.{not-true, not-false}
 use Rattle.format.proofs.KnownLaws.{lent, known-room, data-lent, lent-small}
-use Rattle.container.proofs.ReadLaws.{Asked, reply-length, read-unresolved, read-exceeding, read-no-space}
-use Rattle.container.proofs.ReadLaws.{read-done}
+use Rattle.reading.proofs.ReadLaws.{Asked, reply-length, read-unresolved, read-exceeding, read-no-space}
+use Rattle.reading.proofs.ReadLaws.{read-done}
 use borrow.Author.Needs.{needs}
-use Rattle.container.proofs.reading.read.Statement.{statement}
-use Rattle.container.proofs.reading.read.Tie as tie
+use Rattle.reading.proofs.read.Statement.{statement}
+use Rattle.reading.proofs.read.Tie as tie
 
 asked : (c : tie.After-measure) → let a = c .before .before .before .before .before .before .args in
     Asked (a .c .now) (a .q .now) (lent (a .c .now) (c .before .before .data-end .result)) (a .frame) (a .t)

@@ -6,11 +6,11 @@ use native.Mathlib.Omega.{arith}
 use borrow.Author.Tests.{not-true, not-false}
 use Rattle.rules.specs.Outcomes.{replies}
 use Rattle.format.proofs.KnownLaws.{known-room, data-lent, lent-small}
-use Rattle.verdicts.proofs.WriteRequestLaws.{Writing, decided, differs, other, accepted, reply-fits, failed}
-use Rattle.verdicts.proofs.WriteRequestLaws.{done}
+use Rattle.writing.proofs.WriteRequestLaws.{Writing, decided, differs, other, accepted, reply-fits, failed}
+use Rattle.writing.proofs.WriteRequestLaws.{done}
 use borrow.Author.Needs.{needs}
-use Rattle.verdicts.proofs.writing.test_and_write.Statement.{statement}
-use Rattle.verdicts.proofs.writing.test_and_write.Tie as tie
+use Rattle.writing.proofs.test_and_write.Statement.{statement}
+use Rattle.writing.proofs.test_and_write.Tie as tie
 
 writing : (c : tie.After-verdict-of) → let a = c .before .before .before .before .before .args in
     Writing (a .c .now) (a .q .now) (a .r .now) (a .frame) (a .t) (c .verdict-of .result)

@@ -1,15 +1,15 @@
-// Kind 5 on a well-formed container.
+// Kind 5: a read on a well-formed container.
 ghost use mathlib.Core.Path.{_≡_};
 ghost use Rattle.format.specs.Judging.{Known};
 ghost use Rattle.rules.specs.Outcomes.{answered, replyAfter};
-ghost use Rattle.container.specs.Reading.{ReadRequest};
+ghost use Rattle.reading.specs.Reading.{ReadRequest};
 use format::layout::DATA_AT;
 use format::layout::Frame;
 use requests::forms::Table;
 use rules::Answer;
 use rules::answers::answer;
 
-pub(crate) fn read(c: &[u8], frame: Frame, q: &[u8], t: Table, r: &mut [u8]) -> Answer
+pub fn read(c: &[u8], frame: Frame, q: &[u8], t: Table, r: &mut [u8]) -> Answer
     requires { ⌜ Known (now c) frame × ReadRequest (now q) t ⌝ }
     ensures { λ x. ⌜ x ≡ answered (now (c .entry)) (now (q .entry)) (now (r .entry)) ⌝ }
     ensures { λ _. ⌜ now (r .exit) ≡ replyAfter (now (c .entry)) (now (q .entry)) (now (r .entry)) ⌝ }

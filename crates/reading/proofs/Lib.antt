@@ -1,0 +1,2 @@
+-- Laws of a whole read, which the proofs of this crate and of those above cite.
+pub mod ReadLaws
