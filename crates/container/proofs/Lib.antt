@@ -1,3 +1,3 @@
--- Laws about whole requests, which the proofs of this crate and of those above cite.
+-- Laws of the data that are lent, which the proofs of crates above cite too, and of whole lease requests.
 pub mod DataLaws
 pub mod LeaseRequestLaws

@@ -173,7 +173,7 @@ pub(crate) fn next_item(s: &[u8], at: usize) -> Item
 }
 
 // Makes each byte b.
-pub fn fill(d: &mut [u8], b: u8)
+fn fill(d: &mut [u8], b: u8)
     ensures { λ _. ⌜ now (d .exit) ≡ replicate (length (now (d .entry))) b ⌝ }
 {
     let mut i = 0;

@@ -1,4 +1,5 @@
--- Outcomes 1, 2 and 3: what is answered, and that nothing changes. Assumes nothing.
+-- A number that is neither 0, 5 nor 8, and 1, 2 and 3 above all: what is answered, and that nothing changes. Assumes
+-- nothing.
 use mathlib.Core.Path.{_≡_, refl, _∙_}
 use mathlib.Core.Bool.{true, false}
 use mathlib.Core.List.{List}

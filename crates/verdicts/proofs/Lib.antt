@@ -1,2 +1,2 @@
--- Laws of the verdict, which the proofs of this crate and of those above cite.
+-- Laws of the verdict, for the proofs of this crate and of those above.
 pub mod VerdictLaws

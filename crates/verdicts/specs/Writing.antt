@@ -1,4 +1,4 @@
--- What judging a test-and-write finds, and what its caller knows.
+-- What judging a test-and-write finds, and what committing it asks for.
 use Prim.Native.Nat.{ℕ}
 use mathlib.Core.Path.{_≡_}
 use mathlib.Core.List.{List, _++_}

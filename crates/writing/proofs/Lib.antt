@@ -1,2 +1,2 @@
--- Laws of a whole test-and-write, which the proofs of this crate and of those above cite.
+-- Laws of a whole test-and-write, for the proofs of this crate and of those above.
 pub mod WriteRequestLaws
