@@ -24,8 +24,7 @@ use Rattle.octets.specs.Rows.{firstRow, row}
 use Rattle.format.specs.Parts.{partsOf, encode}
 use Rattle.replies.specs.Pieces.{piecesIn, measuredOf}
 use Rattle.rules.specs.Testing.{replyOf, exceeds, readPiece, resolves}
-use Rattle.reading.specs.Reading.{ReadRequest}
-use Rattle.requests.specs.Forms.{readIn}
+use Rattle.requests.specs.Forms.{readIn, ReadRequest}
 use Rattle.format.specs.Layout.{dataOf}
 use Rattle.octets.specs.Facts.{Octets}
 use Rattle.rules.specs.Requests.{Read, readsFrom, requestOf}

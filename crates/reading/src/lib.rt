@@ -2,7 +2,7 @@
 ghost use mathlib.Core.Path.{_≡_};
 ghost use Rattle.format.specs.Judging.{Known};
 ghost use Rattle.rules.specs.Outcomes.{answered, replyAfter};
-ghost use Rattle.reading.specs.Reading.{ReadRequest};
+ghost use Rattle.requests.specs.Forms.{ReadRequest};
 use format::layout::DATA_AT;
 use format::layout::Frame;
 use requests::forms::Table;

@@ -12,7 +12,7 @@ use Rattle.format.specs.Layout.{recordSize, secretSize, expiryOf, renewalOf}
 use Rattle.format.specs.Container.{held}
 use Rattle.rules.specs.Requests.{Test, Write, Request, testWrite, add, renew, cancel, read, requestLimit}
 use Rattle.rules.specs.Requests.{entryLimit, entrySize, testSize, entryCount, entrySpecimen, testEntryOk, allFrom}
-use Rattle.rules.specs.Requests.{sumFrom, testsFrom, writesFrom, readsFrom}
+use Rattle.rules.specs.Requests.{sumFrom, testsFrom, writesFrom, readsFrom, requestOf}
 use Rattle.requests.specs.Cursors.{bytesFrom}
 use Rattle.requests.specs.declared.cursors.Cursor.{Cursor}
 use Rattle.requests.specs.declared.cursors.Record.{Record}
@@ -108,6 +108,16 @@ pub record Takes (q : List ℕ) (w : Option Request) (r : Form) : Type 0 where
   pub number : formNumber r ≡ cond (isSome w) 0 3
   pub asks : asked q r ≡ w
   pub inside : Inside q r
+
+-- A test-and-write and a read whose form is known, for whoever carries them out.
+pub record WriteRequest (q : List ℕ) (t : Parted) : Type 0 where
+  pub parted : PartedIn q t
+  pub is : requestOf q ≡ some (writeIn t q)
+
+pub record ReadRequest (q : List ℕ) (t : Table) : Type 0 where
+  pub table : TableIn q t
+  pub stride : t .stride ≡ entrySize
+  pub is : requestOf q ≡ some (readIn t q)
 
 -- ---- steps on the way
 -- What passing over n entries from p on finds.

@@ -12,13 +12,12 @@ use Rattle.rules.specs.declared.Answer.{Answer}
 use Rattle.requests.specs.declared.forms.Parted.{Parted}
 use Rattle.verdicts.specs.declared.writing.Verdict.{Verdict}
 use Rattle.verdicts.specs.Writing.{Decided, verdictOf}
-use Rattle.writing.specs.Writing.{WriteRequest}
 use Rattle.format.specs.Judging.{Known}
 use Rattle.octets.specs.Rows.{Row, firstRow, row}
 use Rattle.rules.specs.Outcomes.{after, answered, replies, replyTo, requestRows, rows, admitRows, answerOf}
 use Rattle.rules.specs.Outcomes.{containerAfter, counted, outcome, findRows, noNode, replyAfter, roomRows}
 use Rattle.rules.specs.Outcomes.{afterOf, answerTo, replyBytes}
-use Rattle.requests.specs.Forms.{writeIn}
+use Rattle.requests.specs.Forms.{writeIn, WriteRequest}
 use Rattle.format.specs.Layout.{dataOf, nodeOf}
 use Rattle.octets.specs.Lists.{maybe}
 use Rattle.format.specs.Parts.{partsOf, encode}

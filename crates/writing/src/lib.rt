@@ -2,7 +2,7 @@
 ghost use mathlib.Core.Path.{_≡_};
 ghost use Rattle.format.specs.Judging.{Known};
 ghost use Rattle.rules.specs.Outcomes.{replies, answered, containerAfter, replyAfter};
-ghost use Rattle.writing.specs.Writing.{WriteRequest};
+ghost use Rattle.requests.specs.Forms.{WriteRequest};
 use format::layout::DATA_AT;
 use format::layout::Frame;
 use requests::forms::Parted;

@@ -1,2 +1,0 @@
--- What the contract of a read cites beside the rules.
-pub mod Reading

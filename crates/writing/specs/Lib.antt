@@ -1,2 +1,0 @@
--- What the contract of a test-and-write cites beside the rules.
-pub mod Writing
