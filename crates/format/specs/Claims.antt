@@ -9,12 +9,12 @@ use Rattle.format.specs.Layout.{nodeSize, secretSize, recordSize, fixedP
 use Rattle.format.specs.Container.{recordOk, lastHeld, wellFormed}
 use Rattle.format.specs.Parts.{Parts, used, encode, partsOf}
 
--- A lease place obeys the rules: 92 bytes, all zero where the owner is 0.
+-- A lease place obeys the rules: 92 bytes, all zero where the owner is 0 (docs/RULES.md, E3).
 pub record Place (r : List ℕ) : Type 0 where
   pub size : length r ≡ recordSize
   pub ok : recordOk r ≡ true
 
--- Parts that obey the rules and fit.
+-- Parts that obey the rules and fit (E3).
 pub record Valid (p : Parts) : Type 0 where
   pub at-least : least ≤ p .room
   pub at-most : p .room ≤ limit
@@ -33,7 +33,7 @@ pub record OctetParts (p : Parts) : Type 0 where
   pub bytes : Octets (p .bytes)
   pub leases : Each Octets (p .leases)
 
--- Reading a container into its parts and writing it out gives the same bytes, and the reverse too.
+-- Reading a container into its parts and writing it out gives the same bytes, and the reverse too (E4).
 pub record RoundTrip : Type 0 where
   -- every well-formed container made of bytes is the encoding of its parts
   pub bytes : (c : List ℕ) → wellFormed c ≡ true → Octets c → encode (partsOf c) ≡ c

@@ -1,4 +1,4 @@
--- Well-formedness of a container (document 01, "The container").
+-- Well-formedness of a container (docs/RULES.md, F1 to F9).
 use Prim.Native.Nat.{ℕ}
 use mathlib.Core.Bool.{Bool, true, cond, not, _&&_}
 use mathlib.Core.List.{List, [], _∷_}
@@ -11,25 +11,25 @@ use Rattle.octets.specs.Rows.{Row, row}
 use Rattle.format.specs.Layout.{magic, nodeAt, sizeWidth, fixedPlaces, extraLimit, offsetAt, countAt}
 use Rattle.format.specs.Layout.{usedLength, least, limit, sizeOf, extrasOf, leasesOf, ownerOf}
 
--- Buffer length is 472 to 65,536.
+-- Buffer length is 472 to 65,536 (F1).
 unfoldable pub lengthAllowed : List ℕ → Bool
 lengthAllowed c = leb least (length c) && leb (length c) limit
 
--- A place with an owner holds a lease; owner 0 means none.
+-- A place with an owner holds a lease; owner 0 means none (C20).
 unfoldable pub held : List ℕ → Bool
 held r = not (eqb (ownerOf r) 0)
 
--- A record with owner 0 is zero bytes.
+-- A record with owner 0 is zero bytes (F6).
 unfoldable pub recordOk : List ℕ → Bool
 recordOk r = cond (held r) true (allZero r)
 
--- The last extra lease, if any, has an owner.
+-- The last extra lease, if any, has an owner (F7).
 unfoldable pub lastHeld : List (List ℕ) → Bool
 lastHeld [] = true
 lastHeld (r ∷ []) = held r
 lastHeld (r ∷ (s ∷ rs)) = lastHeld (s ∷ rs)
 
--- The fields agree with each other and with the buffer: magic, offset field, at most 60 extras, all inside.
+-- The fields agree with each other and with the buffer: magic, offset field, at most 60 extras, all inside (F2 to F5).
 unfoldable pub fieldsOk : List ℕ → Bool
 fieldsOk c =
     same (take nodeAt c) magic
@@ -37,17 +37,17 @@ fieldsOk c =
     && (leb (extrasOf c) extraLimit
     && leb (usedLength (sizeOf c) (extrasOf c)) (length c)))
 
--- What the fields lay out is in order: every record, the last extra, zeros after the used end.
+-- What the fields lay out is in order: every record, the last extra, zeros after the used end (F6 to F8).
 unfoldable pub contentsOk : List ℕ → Bool
 contentsOk c =
     every recordOk (leasesOf c)
     && (lastHeld (drop fixedPlaces (leasesOf c))
     && allZero (drop (usedLength (sizeOf c) (extrasOf c)) c))
 
--- Well formed.
+-- Well formed (F1 to F9).
 unfoldable pub wellFormed : List ℕ → Bool
 wellFormed c = lengthAllowed c && (fieldsOk c && contentsOk c)
 
--- Outcomes 1 and 2.
+-- Outcomes 1 and 2 (O1, O2).
 abbrev pub containerRows : List ℕ → List Row
 containerRows c = row 1 (not (lengthAllowed c)) ∷ row 2 (not (wellFormed c)) ∷ []

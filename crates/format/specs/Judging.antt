@@ -44,7 +44,7 @@ judgedFrame BadLength = none
 judgedFrame Malformed = none
 judgedFrame (Formed f) = some f
 
--- Judging c answers j.
+-- Judging c answers j (docs/RULES.md, O1, O2).
 pub record Judges (c : List ℕ) (j : Judged) : Type 0 where
   pub number : judgedNumber j ≡ firstRow (containerRows c)
   pub frame : judgedFrame j ≡ cond (wellFormed c) (some (frameOf c)) none

@@ -1,4 +1,4 @@
--- The layout of a container (document 01, "The container"): a table of fields in one buffer, numbers big-endian.
+-- The layout of a container (docs/RULES.md, C1 to C19): a table of fields in one buffer, numbers big-endian.
 -- Every definition is total: of bytes that are no container it says something, and `wellFormed` says that they are
 -- none.
 use Prim.Native.Nat.{ℕ, zero, suc, _+_, _*_}
@@ -6,13 +6,13 @@ use mathlib.Core.List.{List, [], _∷_, _++_}
 use lib.ListN.{take, drop}
 use Rattle.octets.specs.Numbers.{numberAt}
 
--- "tahoe mutable container v1", then 0A 75 09 44 03 8E.
+-- "tahoe mutable container v1", then 0A 75 09 44 03 8E (C1, C11).
 abbrev pub magic : List ℕ
 magic =
     116 ∷ 97 ∷ 104 ∷ 111 ∷ 101 ∷ 32 ∷ 109 ∷ 117 ∷ 116 ∷ 97 ∷ 98 ∷ 108 ∷ 101 ∷ 32 ∷ 99 ∷ 111 ∷ 110 ∷ 116 ∷ 97 ∷ 105
     ∷ 110 ∷ 101 ∷ 114 ∷ 32 ∷ 118 ∷ 49 ∷ 10 ∷ 117 ∷ 9 ∷ 68 ∷ 3 ∷ 142 ∷ []
 
--- The sizes of the fields: node id, a secret (write enabler or token), data size and offset, extra-lease count.
+-- The sizes of the fields (C2 to C8): node id, a secret (enabler or token), data size and offset, extra-lease count.
 abbrev pub nodeSize : ℕ
 nodeSize = 20
 
@@ -25,7 +25,7 @@ sizeWidth = 8
 abbrev pub countSize : ℕ
 countSize = 4
 
--- The lease record: owner 4 (0 = none), expiry 4, renewal token 32, cancel token 32, node id 20.
+-- The lease record: owner 4 (0 = none), expiry 4, renewal token 32, cancel token 32, node id 20 (C15 to C19).
 abbrev pub expiryAt : ℕ
 expiryAt = 4
 
@@ -38,7 +38,7 @@ cancelAt = renewalAt + secretSize
 abbrev pub recordSize : ℕ
 recordSize = cancelAt + secretSize + nodeSize
 
--- How many lease places are fixed, how many extra leases there may be, and how many leases in all.
+-- How many lease places are fixed, how many extra leases there may be, and how many leases in all (C6, F4, O10).
 abbrev pub fixedPlaces : ℕ
 fixedPlaces = 4
 
@@ -48,7 +48,7 @@ extraLimit = 60
 abbrev pub leaseLimit : ℕ
 leaseLimit = fixedPlaces + extraLimit
 
--- The table: where each field begins, after the 32 bytes of the magic.
+-- The table: where each field begins, after the 32 bytes of the magic (C2 to C7).
 abbrev pub nodeAt : ℕ
 nodeAt = 32
 
@@ -67,26 +67,26 @@ leasesAt = offsetAt + sizeWidth
 abbrev pub dataAt : ℕ
 dataAt = leasesAt + fixedPlaces * recordSize
 
--- Where the extra-lease count stands beside s bytes of data.
+-- Where the extra-lease count stands beside s bytes of data (C5, C8).
 unfoldable pub countAt : ℕ → ℕ
 countAt s = dataAt + s
 
--- Where the extra leases begin, behind the count.
+-- Where the extra leases begin, behind the count (C9).
 abbrev pub extrasAt : ℕ → ℕ
 extrasAt s = countAt s + countSize
 
--- The used length with s bytes of data and e extra leases.
+-- The used length with s bytes of data and e extra leases (C12).
 unfoldable pub usedLength : ℕ → ℕ → ℕ
 usedLength s e = extrasAt s + recordSize * e
 
--- The shortest buffer holds the fields, no data and no extra lease; the longest.
+-- The shortest buffer holds the fields, no data and no extra lease; the longest (F1).
 abbrev pub least : ℕ
 least = dataAt + countSize
 
 abbrev pub limit : ℕ
 limit = 65536
 
--- The fields: node id, write enabler, data size s, data, extra-lease count e.
+-- The fields: node id, write enabler, data size s, data, extra-lease count e (C2 to C8).
 unfoldable pub nodeOf : List ℕ → List ℕ
 nodeOf c = take nodeSize (drop nodeAt c)
 
@@ -102,16 +102,16 @@ dataOf c = take (sizeOf c) (drop dataAt c)
 unfoldable pub extrasOf : List ℕ → ℕ
 extrasOf c = numberAt countSize (countAt (sizeOf c)) c
 
--- The n lease records from p on.
+-- The n lease records from p on (C6, C9).
 unfoldable pub records : ℕ → ℕ → List ℕ → List (List ℕ)
 records zero p c = []
 records (suc n) p c = take recordSize (drop p c) ∷ records n (p + recordSize) c
 
--- The lease places: the four, then the extras.
+-- The lease places: the four, then the extras (C14).
 unfoldable pub leasesOf : List ℕ → List (List ℕ)
 leasesOf c = records fixedPlaces leasesAt c ++ records (extrasOf c) (extrasAt (sizeOf c)) c
 
--- The fields of a lease record.
+-- The fields of a lease record (C15 to C18).
 unfoldable pub ownerOf : List ℕ → ℕ
 ownerOf r = numberAt 4 0 r
 

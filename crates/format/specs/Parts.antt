@@ -1,4 +1,4 @@
--- A container as parts: what reading it gives, and the bytes that the parts determine.
+-- A container as parts (docs/RULES.md, E1 to E4): what reading it gives, and the bytes that the parts determine.
 use Prim.Native.Nat.{ℕ, _-_}
 use mathlib.Core.List.{List, [], _++_}
 use lib.ListN.{length, take, drop, replicate}
@@ -7,7 +7,7 @@ use Rattle.octets.specs.Strings.{join}
 use Rattle.format.specs.Layout.{magic, sizeWidth, countSize, recordSize, fixedPlaces, countAt, usedLength}
 use Rattle.format.specs.Layout.{nodeOf, enablerOf, dataOf, leasesOf}
 
--- Buffer length, node id, enabler, data bytes; the four lease places and then the extra ones, empty ones included.
+-- Buffer length, node id, enabler, data bytes; the four lease places and then the extra ones, empty ones included (E1).
 pub record Parts : Type 0 where
   pub room : ℕ
   pub node : List ℕ
@@ -15,18 +15,18 @@ pub record Parts : Type 0 where
   pub bytes : List ℕ
   pub leases : List (List ℕ)
 
--- How many of the places are extras.
+-- How many of the places are extras (E3).
 unfoldable pub extras : List (List ℕ) → ℕ
 extras ls = length ls - fixedPlaces
 
 unfoldable pub used : Parts → ℕ
 used p = usedLength (length (p .bytes)) (extras (p .leases))
 
--- Reading a container into its parts.
+-- Reading a container into its parts (E1).
 unfoldable pub partsOf : List ℕ → Parts
 partsOf c = record { room = length c; node = nodeOf c; enabler = enablerOf c; bytes = dataOf c; leases = leasesOf c }
 
--- What stands before the leases; the head, which ends with the four places; the tail, count and extra leases.
+-- What stands before the leases; the head, which ends with the four places; the tail, count and extra leases (E2).
 unfoldable pub frontOf : Parts → List ℕ
 frontOf p =
     magic ++ (p .node ++ (p .enabler
@@ -38,11 +38,11 @@ headOf p = frontOf p ++ join (take fixedPlaces (p .leases))
 unfoldable pub tailOf : Parts → List ℕ
 tailOf p = digits countSize (extras (p .leases)) ++ join (drop fixedPlaces (p .leases))
 
--- Writing the parts out: head, data, tail, then zeros.
+-- Writing the parts out: head, data, tail, then zeros (E2).
 unfoldable pub encode : Parts → List ℕ
 encode p = headOf p ++ (p .bytes ++ (tailOf p ++ replicate (p .room - used p) 0))
 
--- The parts of a fresh container: no data, four empty places.
+-- The parts of a fresh container: no data, four empty places (M1).
 unfoldable pub noLease : List ℕ
 noLease = replicate recordSize 0
 

@@ -20,7 +20,7 @@ pub record Laid (n s k : ℕ) (c h d t : List ℕ) : Type 0 where
   pub tail : length t ≡ k
   pub fits : dataAt + s + k ≤ n
 
--- Where lease place i begins beside s bytes of data: the four, then the extras behind the count.
+-- Where lease place i begins beside s bytes of data: the four, then the extras behind the count (docs/RULES.md, C14).
 unfoldable pub placeAt : ℕ → ℕ → ℕ
 placeAt s i =
     cond (ltb i fixedPlaces) (leasesAt + recordSize * i) (extrasAt s + recordSize * (i - fixedPlaces))

@@ -1,4 +1,4 @@
--- What is claimed of histories (demand 3). Proved in proofs/Demand3.antt.
+-- What is claimed of histories (demand 3; docs/RULES.md, D3). Proved in proofs/Demand3.antt.
 use Prim.Native.Nat.{ℕ}
 use mathlib.Core.Path.{_≡_}
 use mathlib.Core.Bool.{true}
@@ -14,33 +14,33 @@ use Rattle.rules.specs.Outcomes.{createOutcome, createdContainer}
 use Rattle.histories.specs.Accepted.{accepted}
 
 -- Two histories on the same container bytes: beside each read and test-and-write the same is heard in both, beside each
--- lease request too, and the whole buffer ends the same.
+-- lease request too, and the whole buffer ends the same (H6).
 pub record Alike (h k : List Call) (c : List ℕ) : Type 0 where
   pub data-heard : beside isData h (answers hears leaves h c) ≡ beside isData k (answers hears leaves k c)
   pub lease-heard : beside isLease h (answers hears leaves h c) ≡ beside isLease k (answers hears leaves k c)
   pub bytes-equal : final leaves h c ≡ final leaves k c
 
 -- After a history on container bytes c whose parts are p: everything heard, the whole buffer and every lease record are
--- what the rules give for the parts alone.
+-- what the rules give for the parts alone (H8).
 pub record ByRules (h : List Call) (c : List ℕ) (p : Parts) : Type 0 where
   pub heard : answers hears leaves h c ≡ answers ruleHears ruleLeaves h p
   pub buffer : final leaves h c ≡ encode (final ruleLeaves h p)
   pub leases : leasesOf (final leaves h c) ≡ final ruleLeaves h p .leases
   pub formed : wellFormed (final leaves h c) ≡ true
 
--- Data has the size that the changes give it, and each byte is the one that they leave there.
+-- Data has the size that the changes give it, and each byte is the one that they leave there (H11 to H13).
 pub record Told (os : List Change) (d : List ℕ) : Type 0 where
   pub size : length d ≡ sizeAfter os 0
   pub each : (i : ℕ) → getD d i 0 ≡ byteAfter os i
 
--- Demand 3 of container bytes c with parts p.
+-- Demand 3 of container bytes c with parts p (D3).
 pub record Demand3 (c : List ℕ) (p : Parts) : Type 0 where
   pub woven : (h k : List Call) → Woven h k → Never noRoom (answers hears leaves h c)
       → Never noRoom (answers hears leaves k c) → Alike h k c
   pub rules : (h : List Call) → ByRules h c p
   pub told : (h : List Call) → Told (accepted h (answers hears leaves h c) 0) (dataOf (final leaves h c))
 
--- Demand 3 of every container that create has just made with outcome 0, at any allowed buffer length.
+-- Demand 3 of every container that create has just made with outcome 0, at any allowed buffer length (H1).
 pub record Histories (b node enabler : List ℕ) : Type 0 where
   pub fresh-made : createOutcome b node enabler ≡ 0 →
       Demand3 (createdContainer b node enabler) (fresh (length b) node enabler)

@@ -1,5 +1,5 @@
 -- The incident: bytes from before a cut showed up again inside a later gap. What is claimed against it, over whole
--- histories. Proved in proofs/Incident.antt.
+-- histories (docs/RULES.md, D4). Proved in proofs/Incident.antt.
 use Prim.Native.Nat.{ℕ, _+_, _≤_, _<_}
 use mathlib.Core.Path.{_≡_}
 use mathlib.Core.Bool.{false}
@@ -40,7 +40,7 @@ middle c before x = final leaves (before ++ (x ∷ [])) c
 abbrev pub end : List ℕ → List Call → Call → List Call → List ℕ
 end c before x after = final leaves ((before ++ (x ∷ [])) ++ after) c
 
--- In the end nothing from before x shows at or above place m.
+-- In the end nothing from before x shows at or above place m (D4).
 pub record Forgets (c : List ℕ) (before : List Call) (x : Call) (after : List Call) (m : ℕ) : Type 0 where
   -- each data byte is what the calls after x put there, otherwise zero
   pub bytes : (i : ℕ) → m ≤ i →
@@ -54,7 +54,7 @@ pub record Forgets (c : List ℕ) (before : List Call) (x : Call) (after : List 
       getD (dataOf (end c before x after)) i 0 ≡ 0
 
 -- The incident cannot happen again: in every history from a fresh container, whatever comes before an accepted cut to m
--- and whatever comes after it.
+-- and whatever comes after it (D4).
 pub record Incident (b node enabler : List ℕ) : Type 0 where
   pub forgets : createOutcome b node enabler ≡ 0 → (before : List Call) (x : Call) (after : List Call) (m : ℕ) →
       Cuts x (final leaves before (createdContainer b node enabler)) m →

@@ -1,4 +1,4 @@
--- Histories of requests on one container (document 01, "Histories").
+-- Histories of requests on one container (docs/RULES.md, H1 to H13).
 pub mod Runs
 pub mod Accepted
 pub mod Claims

@@ -1,4 +1,4 @@
--- The last element of a list that says anything decides.
+-- The last element of a list that says anything decides (docs/RULES.md, H12).
 use mathlib.Core.List.{List, [], _∷_}
 use mathlib.Core.Option.{Option, none, some}
 

@@ -103,7 +103,7 @@ Inside q (Renew k x) = BytesIn q k secretSize
 Inside q (Cancel k) = BytesIn q k secretSize
 Inside q (ReadForm t) = TableIn q t × (t .stride ≡ entrySize)
 
--- The form r of the bytes q stands for the request w, if any.
+-- The form r of the bytes q stands for the request w, if any (docs/RULES.md, Q3).
 pub record Takes (q : List ℕ) (w : Option Request) (r : Form) : Type 0 where
   pub number : formNumber r ≡ cond (isSome w) 0 3
   pub asks : asked q r ≡ w

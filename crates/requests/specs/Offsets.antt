@@ -1,4 +1,4 @@
--- What resolving an offset answers.
+-- What resolving an offset answers (docs/RULES.md, T1).
 use Prim.Native.Nat.{ℕ}
 use lib.IntN.{ℤ}
 use Rattle.rules.specs.Testing.{resolves, position}

@@ -133,7 +133,7 @@ module _ (c q r : List ℕ) where
       go (cancels i o f) = absurd (omega arith)
       go (reads i o f) = absurd (omega arith)
 
-  -- the parts afterwards are those of the paper
+  -- the parts afterwards are those of the rules
   after-accepts : (a : Accepts c q (length r)) →
       afterOf (partsOf c) (requestOf q) ≡ withBytes (partsOf c) (rewritten (a .writes) (a .cut) (dataOf c))
   unfolding afterOf maybe after partsOf

@@ -10,16 +10,16 @@ use Rattle.rules.specs.Requests.{Request, testWrite, add, renew, cancel,
 use Rattle.octets.specs.Lists.{orElse}
 use Rattle.octets.specs.Last.{lastSaid}
 
--- Whether a write of k bytes at a position covers position i.
+-- Whether a write of k bytes at a position covers position i (docs/RULES.md, H12).
 unfoldable pub covers : ℕ → ℕ → ℕ → Bool
 covers at k i = leb at i && ltb i (at + k)
 
--- A write of bytes at a position, or a cut to a new length.
+-- A write of bytes at a position, or a cut to a new length (H10).
 pub data Change : Type 0 where
   wrote : ℕ → List ℕ → Change
   cutAt : ℕ → Change
 
--- The size: a write that is not empty raises it to position plus length, a cut lowers it to the new length.
+-- The size: a write that is not empty raises it to position plus length, a cut lowers it to the new length (H11).
 unfoldable pub sizeBy : Change → ℕ → ℕ
 sizeBy (wrote at bs) n = grow n at (length bs)
 sizeBy (cutAt m) n = min m n
@@ -28,16 +28,16 @@ unfoldable pub sizeAfter : List Change → ℕ → ℕ
 sizeAfter [] n = n
 sizeAfter (o ∷ os) n = sizeAfter os (sizeBy o n)
 
--- What one change says of a position: a write that covers it its byte, a cut at or below it zero, any other nothing.
+-- What one change says of a position: a write over it its byte, a cut at or below it zero, any other nothing (H12).
 unfoldable pub says : ℕ → Change → Option ℕ
 says i (wrote at bs) = cond (covers at (length bs) i) (some (getD bs (i - at) 0)) none
 says i (cutAt m) = cond (leb m i) (some 0) none
 
--- The byte at a position: what the last change that says anything says, otherwise zero.
+-- The byte at a position: what the last change that says anything says, otherwise zero (H12).
 unfoldable pub byteAfter : List Change → ℕ → ℕ
 byteAfter os i = orElse (lastSaid (says i) os) 0
 
--- A request's changes on data of a size: its writes in order, then its cut.
+-- A request's changes on data of a size: its writes in order, then its cut (H10).
 unfoldable pub cutChange : Option ℕ → List Change
 cutChange none = []
 cutChange (some n) = cutAt n ∷ []

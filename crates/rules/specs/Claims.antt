@@ -1,4 +1,4 @@
--- What is claimed of the rules (demands 1 and 2, and that secrets stay in). Proved in proofs/.
+-- What is claimed of the rules (demands 1 and 2; secrets stay in: docs/RULES.md, D1, D2, D5). Proved in proofs/.
 use Prim.Native.Nat.{ℕ, _≤_}
 use mathlib.Core.Path.{_≡_}
 use mathlib.Core.Bool.{true, cond}
@@ -21,7 +21,7 @@ use Rattle.rules.specs.Leasing.{present}
 use Rattle.rules.specs.Outcomes.{withBytes, noNode, answered, containerAfter, replyAfter, createAnswer}
 use Rattle.rules.specs.Outcomes.{createdContainer}
 
--- The numbers that the table of outcomes has for a request: 1 to 3 for every request, then those of its kind.
+-- The numbers that the table of outcomes has for a request: 1 to 3 for every request, then those of its kind (O22).
 unfoldable pub numbersFor : ℕ → List ℕ
 numbersFor kind =
     1 ∷ 2 ∷ 3
@@ -37,7 +37,7 @@ pub record Reported (c q r bs : List ℕ) : Type 0 where
   pub reply : replyAfter c q r ≡ put 0 bs r
   pub count : answered c q r .count ≡ length bs
 
--- Demand 1, of any bytes as container, request and reply space.
+-- Demand 1, of any bytes as container, request and reply space (D1).
 pub record Demand1 (c q r : List ℕ) : Type 0 where
   -- the call ends in a number that the table has for the request's kind
   pub number : Among (answered c q r .number) (numbersFor (kindOf q))
@@ -70,7 +70,7 @@ pub record Demand1 (c q r : List ℕ) : Type 0 where
   -- a well-formed container stays well formed
   pub stays-formed : wellFormed c ≡ true → wellFormed (containerAfter c q r) ≡ true
 
--- Demand 1 of create, on any buffer and with any arguments.
+-- Demand 1 of create, on any buffer and with any arguments (D1).
 pub record Demand1Create (c node enabler : List ℕ) : Type 0 where
   -- the call ends in a number that the table has for create
   pub number : Among (createAnswer c node enabler .number) (0 ∷ 1 ∷ 3 ∷ 12 ∷ [])
@@ -89,7 +89,7 @@ abbrev pub NotNegative : ℤ → Type 0
 NotNegative (pos n) = Unit {0}
 NotNegative (negsuc k) = ⊥
 
--- Demand 2's conditions, each by itself, for a test-and-write beside a reply space of n bytes.
+-- Demand 2's conditions, each by itself, for a test-and-write beside a reply space of n bytes (D2).
 pub record Accepts (c q : List ℕ) (n : ℕ) : Type 0 where
   pub enabler : List ℕ
   pub tests : List Test
@@ -110,7 +110,7 @@ pub record Accepts (c q : List ℕ) (n : ℕ) : Type 0 where
   -- the result fits
   pub result-fits : used (withBytes (partsOf c) (rewritten writes cut (dataOf c))) ≤ length c
 
--- What is then done.
+-- What is then done (D2).
 pub record Writes (c q r : List ℕ) (a : Accepts c q (length r)) : Type 0 where
   -- the named writes in order, zeros in gaps, and the cut; all else is kept
   pub parts : partsOf (containerAfter c q r) ≡ withBytes (partsOf c) (rewritten (a .writes) (a .cut) (dataOf c))
@@ -119,7 +119,7 @@ pub record Writes (c q r : List ℕ) (a : Accepts c q (length r)) : Type 0 where
   -- the reply holds the pieces of the data as it was before any write
   pub reported : Reported c q r (replyOf (map (testPiece (dataOf c)) (a .tests)))
 
--- Demand 2, of any bytes as container, request of kind 1 and reply space.
+-- Demand 2, of any bytes as container, request of kind 1 and reply space (D2).
 pub record Demand2 (c q r : List ℕ) : Type 0 where
   -- a test-and-write is done exactly when the conditions hold
   pub exactly : kindOf q ≡ 1 → (answered c q r .number ≡ 0) ↔ Accepts c q (length r)
@@ -138,7 +138,7 @@ pub record SameReply (b c q r : List ℕ) : Type 0 where
   pub answer : answered b q r ≡ answered c q r
   pub reply : replyAfter b q r ≡ replyAfter c q r
 
--- Secrets stay in: neither answer nor reply tells the write enabler or the leases.
+-- Secrets stay in: neither answer nor reply tells the write enabler or the leases (D5).
 pub record Secrets (b c q r : List ℕ) : Type 0 where
   -- a read gets the same answer and reply bytes in both containers
   pub of-read : SamePublic b c → kindOf q ≡ 5 → SameReply b c q r

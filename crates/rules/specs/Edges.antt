@@ -1,4 +1,4 @@
--- Numbers at the edges (document 01, P1 to P10), as one table: what create and then a few requests give.
+-- Numbers at the edges (docs/RULES.md, P1 to P10, P12), as one table: what create and then a few requests give.
 use Prim.Native.Nat.{ℕ}
 use mathlib.Core.Path.{_≡_}
 use mathlib.Core.Bool.{cond}
@@ -135,7 +135,7 @@ cases long =
     ∷ given 500 ((4 ∷ replicate 32 0) ∷ [])
     ∷ []
 
--- What document 01 says of each case, in the same order.
+-- What each case gives, in the same order.
 abbrev pub results : List Outcome
 results =
     gives 0 [] [] 472
@@ -158,7 +158,7 @@ results =
     ∷ gives 0 (9 ∷ []) [] 472
     ∷ []
 
--- The whole request of 62 bytes, enabler EE 32 times.
+-- The whole request of 62 bytes, enabler EE 32 times (P12).
 abbrev pub request62 : List ℕ
 request62 =
     (1 ∷ 1 ∷ 1 ∷ 0 ∷ 0 ∷ 0 ∷ 0 ∷ 0 ∷ [])

@@ -1,5 +1,5 @@
--- Requests (document 01, "Requests"): a table of contents first, then the bodies. `requestOf` reads bytes into a
--- request, and gives none where they break the format.
+-- Requests (docs/RULES.md, Q1 to Q31): a table of contents first, then the bodies. `requestOf` reads bytes into a
+-- request, and gives none where they break the format (X1 to X17).
 use Prim.Native.Nat.{ℕ, zero, suc, _+_, _*_}
 use mathlib.Core.Bool.{Bool, true, cond, _&&_}
 use mathlib.Core.List.{List, [], _∷_}
@@ -11,7 +11,7 @@ use Rattle.octets.specs.Numbers.{numberAt, signed}
 use Rattle.format.specs.Container.{held}
 use Rattle.format.specs.Layout.{recordSize, secretSize}
 
--- A test: offset, length, opcode, specimen. A read: offset, length. A write: offset, new bytes.
+-- A test: offset, length, opcode, specimen. A read: offset, length. A write: offset, new bytes (Q14 to Q20, Q31).
 pub record Test : Type 0 where
   pub offset : ℤ
   pub count : ℕ
@@ -26,7 +26,7 @@ pub record Write : Type 0 where
   pub offset : ℤ
   pub bytes : List ℕ
 
--- The five kinds. A test-and-write holds its enabler, tests, writes, and its cut, if any, to a new length.
+-- The five kinds. A test-and-write holds its enabler, tests, writes, and its cut, if any, to a new length (Q1).
 pub data Request : Type 0 where
   testWrite : List ℕ → List Test → List Write → Option ℕ → Request
   add : List ℕ → Request
@@ -34,14 +34,14 @@ pub data Request : Type 0 where
   cancel : List ℕ → Request
   read : List Read → Request
 
--- A request is at most 65,536 bytes; a table has at most 16 entries.
+-- A request is at most 65,536 bytes; a table has at most 16 entries (Q1, Q5, Q6, Q29).
 abbrev pub requestLimit : ℕ
 requestLimit = 65536
 
 abbrev pub entryLimit : ℕ
 entryLimit = 16
 
--- An entry is offset 4, length 4; a test's entry goes on with opcode 1, a zero byte, specimen length 2.
+-- An entry is offset 4, length 4; a test's entry goes on with opcode 1, a zero byte, specimen length 2 (Q14 to Q20).
 abbrev pub entrySize : ℕ
 entrySize = 8
 
@@ -51,7 +51,7 @@ paddingAt = entrySize + 1
 abbrev pub testSize : ℕ
 testSize = paddingAt + 3
 
--- The entry at p of a table: its offset is signed, its length unsigned.
+-- The entry at p of a table: its offset is signed, its length unsigned (B2, Q14 to Q20).
 unfoldable pub entryOffset : ℕ → List ℕ → ℤ
 entryOffset p q = signed (numberAt 4 p q)
 
@@ -64,7 +64,7 @@ entryOpcode p q = getD q (p + entrySize) 0
 unfoldable pub entrySpecimen : ℕ → List ℕ → ℕ
 entrySpecimen p q = numberAt 2 (p + (paddingAt + 1)) q
 
--- A test's opcode is 1 to 6, and a zero byte follows it.
+-- A test's opcode is 1 to 6, and a zero byte follows it (Q16, Q17).
 abbrev pub entryOk : ℕ → ℕ → Bool
 entryOk opcode padding = leb 1 opcode && (leb opcode 6 && eqb padding 0)
 
@@ -80,7 +80,7 @@ unfoldable pub sumFrom : (ℕ → ℕ) → ℕ → ℕ → ℕ → ℕ
 sumFrom f stride zero p = 0
 sumFrom f stride (suc n) p = f p + sumFrom f stride n (p + stride)
 
--- The n entries from p, whose bodies stand one after the other from b.
+-- The n entries from p, whose bodies stand one after the other from b (Q10 to Q13, Q31).
 unfoldable pub testsFrom : ℕ → ℕ → ℕ → List ℕ → List Test
 testsFrom zero p b q = []
 testsFrom (suc n) p b q =
@@ -102,7 +102,7 @@ unfoldable pub readsFrom : ℕ → ℕ → List ℕ → List Read
 readsFrom zero p q = []
 readsFrom (suc n) p q = record { offset = entryOffset p q; count = entryCount p q } ∷ readsFrom n (p + entrySize) q
 
--- Kind 1: 01, T, V, cut flag, new length 4, write enabler 32; T entries of 12; V entries of 8; specimens; new data.
+-- Kind 1 (Q4 to Q13): 01, T, V, cut flag, new length 4, enabler 32; T entries of 12, V of 8; specimens; new data.
 unfoldable pub testCount : List ℕ → ℕ
 testCount q = getD q 1 0
 
@@ -130,11 +130,11 @@ specimensAt q = writesAt q + entrySize * writeCount q
 unfoldable pub newDataAt : List ℕ → ℕ
 newDataAt q = specimensAt q + sumFrom (λ p. entrySpecimen p q) testSize (testCount q) testsAt
 
--- Where its last body ends.
+-- Where its last body ends (Q13, X10).
 unfoldable pub testWriteEnd : List ℕ → ℕ
 testWriteEnd q = newDataAt q + sumFrom (λ p. entryCount p q) entrySize (writeCount q) (writesAt q)
 
--- The new length is 0 when the flag is 0.
+-- The new length is 0 when the flag is 0 (Q7, Q8).
 unfoldable pub cutOk : ℕ → ℕ → Bool
 cutOk flag new = leb flag 1 && cond (eqb flag 0) (eqb new 0) true
 
@@ -151,18 +151,18 @@ testWriteOf q =
     testWrite (take secretSize (drop secretAt q)) (testsFrom (testCount q) testsAt (specimensAt q) q)
     (writesFrom (writeCount q) (writesAt q) (newDataAt q) q) (cutOf (cutFlag q) (newLength q))
 
--- Kind 2: 02 and a 92-byte record with owner not 0.
+-- Kind 2: 02 and a 92-byte record with owner not 0 (Q21, Q22).
 unfoldable pub addOk : List ℕ → Bool
 addOk q = eqb (length q) (1 + recordSize) && held (drop 1 q)
 
--- Kind 3: 03, token 32, expiry 4. Kind 4: 04, token 32.
+-- Kind 3: 03, token 32, expiry 4. Kind 4: 04, token 32 (Q23 to Q27).
 unfoldable pub renewOk : List ℕ → Bool
 renewOk q = eqb (length q) (1 + secretSize + 4)
 
 unfoldable pub cancelOk : List ℕ → Bool
 cancelOk q = eqb (length q) (1 + secretSize)
 
--- Kind 5: 05, R, two zero bytes, R entries of 8.
+-- Kind 5: 05, R, two zero bytes, R entries of 8 (Q28 to Q31).
 unfoldable pub readCount : List ℕ → ℕ
 readCount q = getD q 1 0
 
@@ -174,7 +174,7 @@ readOk q =
     leb (readCount q) entryLimit && (eqb (getD q 2 0) 0 && (eqb (getD q 3 0) 0
     && eqb (readsAt + entrySize * readCount q) (length q)))
 
--- By the first byte; any other kind, and the empty request, breaks the format.
+-- By the first byte; any other kind, and the empty request, breaks the format (Q1, X2, X3).
 unfoldable pub kindOf : List ℕ → ℕ
 kindOf q = getD q 0 0
 

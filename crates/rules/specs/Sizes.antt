@@ -6,17 +6,17 @@ use lib.ListN.{length, take}
 use Rattle.rules.specs.Writing.{Placed, padTo, grow, placed}
 use Rattle.rules.specs.Requests.{Write}
 
--- The size after the writes.
+-- The size after the writes (docs/RULES.md, W4).
 unfoldable pub sizeAll : List Placed → ℕ → ℕ
 sizeAll [] n = n
 sizeAll (w ∷ ws) n = sizeAll ws (grow n (w .at) (length (w .bytes)))
 
--- The size after the cut.
+-- The size after the cut (W5).
 unfoldable pub cutSize : Option ℕ → ℕ → ℕ
 cutSize none n = n
 cutSize (some m) n = min m n
 
--- The size after a test-and-write.
+-- The size after a test-and-write (W7).
 unfoldable pub finalSize : List Write → Option ℕ → ℕ → ℕ
 finalSize ws cut n = cutSize cut (sizeAll (placed ws n) n)
 

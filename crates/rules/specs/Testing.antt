@@ -1,4 +1,4 @@
--- Offsets, pieces, tests and replies (document 01, "Testing, writing, leasing").
+-- Offsets, pieces, tests and replies (docs/RULES.md, T1 to T6, R1).
 use Prim.Native.Nat.{ℕ, _+_}
 use mathlib.Core.Bool.{Bool, true, false, cond, not}
 use mathlib.Core.List.{List, _++_, map}
@@ -11,7 +11,7 @@ use Rattle.octets.specs.Strings.{order, join}
 use Rattle.rules.specs.Requests.{Test, Read}
 use Rattle.octets.specs.Lists.{isSome, orElse}
 
--- How an offset is resolved on data of a size: a position, or none where row 4 refuses it.
+-- How an offset is resolved on data of a size: a position, or none where row 4 refuses it (T1).
 unfoldable pub resolve : ℤ → ℕ → Option ℕ
 resolve (pos n) size = some n
 resolve (negsuc k) size = none
@@ -22,21 +22,21 @@ resolves o size = isSome (resolve o size)
 unfoldable pub position : ℤ → ℕ → ℕ
 position o size = orElse (resolve o size) 0
 
--- The data from an offset on, at most so many bytes, stopping at the end of data.
+-- The data from an offset on, at most so many bytes, stopping at the end of data (T2).
 unfoldable pub piece : List ℕ → ℤ → ℕ → List ℕ
 piece d o n = take n (drop (position o (length d)) d)
 
 unfoldable pub testPiece : List ℕ → Test → List ℕ
 testPiece d t = piece d (t .offset) (t .count)
 
--- What a read returns, and whether its offset plus length exceeds the size (row 6).
+-- What a read returns, and whether its offset plus length exceeds the size, row 6 (T6).
 unfoldable pub readPiece : List ℕ → Read → List ℕ
 readPiece d r = piece d (r .offset) (r .count)
 
 unfoldable pub exceeds : List ℕ → Read → Bool
 exceeds d r = ltb (length d) (position (r .offset) (length d) + r .count)
 
--- What the opcodes lt, le, eq, ne, ge, gt make of -1, 0 or 1.
+-- What the opcodes lt, le, eq, ne, ge, gt make of -1, 0 or 1 (T4).
 unfoldable pub below : ℤ → Bool
 below (pos n) = false
 below (negsuc k) = true
@@ -54,11 +54,11 @@ decides op z =
     (cond (eqb op 3) (level z) (cond (eqb op 4) (not (level z))
     (cond (eqb op 5) (not (below z)) (not (atMost z))))))
 
--- The piece on the left, the specimen on the right.
+-- The piece on the left, the specimen on the right (T3).
 unfoldable pub holds : List ℕ → Test → Bool
 holds d t = decides (t .opcode) (order (testPiece d t) (t .specimen))
 
--- A reply: a table of 4-byte lengths, one for each piece, then the pieces.
+-- A reply: a table of 4-byte lengths, one for each piece, then the pieces (R1).
 abbrev pub lengthSize : ℕ
 lengthSize = 4
 

@@ -1,4 +1,4 @@
-// The rules of document 01: what each request does. Their definitions are in specs/, what holds of them in proofs/.
+// The rules (docs/RULES.md): what each request does. Their definitions are in specs/, what holds of them in proofs/.
 pub mod answers;
 
 // The answer record: the outcome's number, a node id (the container's on 5, else zeros) and a count.

@@ -16,11 +16,11 @@ above n = record { at = n; strict = true }
 abbrev pub from : ℕ → Bound
 from n = record { at = n; strict = false }
 
--- The boundaries after `a` stand in order.
+-- The boundaries after `a` stand in order (docs/RULES.md, S25).
 unfoldable pub inOrder : ℕ → List Bound → Bool
 inOrder a [] = true
 inOrder a (b ∷ bs) = cond (b .strict) (ltb a (b .at)) (leb a (b .at)) && inOrder (b .at) bs
 
--- Part i of a slice: from boundary i to boundary i + 1.
+-- Part i of a slice: from boundary i to boundary i + 1 (S34).
 unfoldable pub partOf : ℕ → List ℕ → List ℕ → List ℕ
 partOf i bs s = take (getD bs (suc i) 0 - getD bs i 0) (drop (getD bs i 0) s)

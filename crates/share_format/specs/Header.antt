@@ -1,4 +1,4 @@
--- The header of an SDMF share (document 01, "The SDMF share"), field by field.
+-- The header of an SDMF share (docs/RULES.md, S1 to S15), field by field.
 use Prim.Native.Nat.{ℕ}
 use mathlib.Core.List.{List, [], _∷_}
 use lib.ListN.{getD}
@@ -8,11 +8,11 @@ use Rattle.octets.specs.Numbers.{numberAt}
 abbrev pub hashSize : ℕ
 hashSize = 32
 
--- The verification key stands after the header.
+-- The verification key stands after the header (S15).
 abbrev pub keyAt : ℕ
 keyAt = 107
 
--- The fields at their places in the table; R stands at 9 and IV at 41. k is `required`, N is `total`.
+-- The fields at their places in the table; R stands at 9 and IV at 41. k is `required`, N is `total` (S1 to S14).
 abbrev pub version : List ℕ → ℕ
 version s = getD s 0 0
 
@@ -49,6 +49,6 @@ privateKeyAt s = numberAt 8 91 s
 abbrev pub endAt : List ℕ → ℕ
 endAt s = numberAt 8 99 s
 
--- The boundaries of the six parts: key, signature, chain, tree, share data, private key.
+-- The boundaries of the six parts: key, signature, chain, tree, share data, private key (S34).
 unfoldable pub boundsOf : List ℕ → List ℕ
 boundsOf s = keyAt ∷ signatureAt s ∷ chainAt s ∷ treeAt s ∷ shareDataAt s ∷ privateKeyAt s ∷ endAt s ∷ []

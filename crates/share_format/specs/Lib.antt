@@ -1,4 +1,4 @@
--- The layout of the SDMF share of document 01.
+-- The layout of the SDMF share (docs/RULES.md, S1 to S34).
 pub mod Bounds
 pub mod Header
 pub mod Nodes

@@ -1,4 +1,4 @@
--- The hash chain's node numbers, and the tree over the shares (row 26).
+-- The hash chain's node numbers, and the tree over the shares (docs/RULES.md, S26, S32, S33).
 use Prim.Native.Nat.{ℕ, zero, suc, _+_, _*_}
 use mathlib.Core.Bool.{Bool, true, cond, not, _&&_}
 use mathlib.Core.List.{List, [], _∷_}
@@ -7,7 +7,7 @@ use Rattle.octets.specs.Numbers.{numberAt}
 use Rattle.share_format.specs.Header.{hashSize}
 use Rattle.octets.specs.Lists.{anyOf}
 
--- The depth c is the least with 2^c >= N; N is a byte, so c is at most 8.
+-- The depth c is the least with 2^c >= N; N is a byte, so c is at most 8 (S32).
 unfoldable pub depthFrom : ℕ → ℕ → ℕ → ℕ → ℕ
 depthFrom zero c power n = c
 depthFrom (suc more) c power n = cond (leb n power) c (depthFrom more (suc c) (2 * power) n)
@@ -20,16 +20,16 @@ unfoldable pub power : ℕ → ℕ
 power zero = 1
 power (suc c) = 2 * power c
 
--- An entry of the chain: a node number of 2 bytes, and its hash.
+-- An entry of the chain: a node number of 2 bytes, and its hash (S33).
 abbrev pub chainEntrySize : ℕ
 chainEntrySize = 2 + hashSize
 
--- The node numbers of n entries from p on.
+-- The node numbers of n entries from p on (S33).
 unfoldable pub nodesFrom : ℕ → ℕ → List ℕ → List ℕ
 nodesFrom zero p s = []
 nodesFrom (suc n) p s = numberAt 2 p s ∷ nodesFrom n (p + chainEntrySize) s
 
--- No node number repeats, none is `top` or more.
+-- No node number repeats, none is `top` or more (S26).
 unfoldable pub nodesOk : ℕ → List ℕ → Bool
 nodesOk top [] = true
 nodesOk top (x ∷ xs) = ltb x top && (not (anyOf (eqb x) xs) && nodesOk top xs)

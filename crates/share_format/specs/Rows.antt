@@ -1,4 +1,4 @@
--- Outcomes 21 to 29 of an SDMF share (document 01, "The SDMF share"). Numbers do not wrap.
+-- Outcomes 21 to 29 of an SDMF share (docs/RULES.md, S21 to S31). Numbers do not wrap.
 use Prim.Native.Nat.{ℕ, _+_, _-_, _*_, _/_, _%_}
 use mathlib.Core.Bool.{Bool, true, cond, not, _&&_}
 use mathlib.Core.List.{List, [], _∷_, _++_}
@@ -59,6 +59,6 @@ bodyRows s =
     ∷ row 28 (not (blockOk s))
     ∷ row 29 (eqb (sequence s) lastSequence) ∷ []
 
--- The lowest number that applies.
+-- The lowest number that applies (S30).
 unfoldable pub shareOutcome : List ℕ → ℕ
 shareOutcome s = firstRow (headRows s ++ bodyRows s)

@@ -1,4 +1,4 @@
-// The header's fields, each at its place in the table of document 01.
+// The header's fields, each at its place in the table (docs/RULES.md, S1 to S15).
 use octets::numbers;
 ghost use mathlib.Core.Path.{_≡_};
 ghost use Prim.Native.Nat.{_≤_};

@@ -1,4 +1,4 @@
--- What is claimed of the share checks (demand 1). Proved in proofs/.
+-- What is claimed of the share checks (demand 1; docs/RULES.md, D1). Proved in proofs/.
 use mathlib.Core.Path.{_≡_}
 use Prim.Native.Nat.{ℕ, suc, _+_, _<_}
 use mathlib.Core.List.{List, [], _∷_, _++_}
@@ -15,7 +15,7 @@ shareNumbers = 0 ∷ 21 ∷ 22 ∷ 23 ∷ 24 ∷ 25 ∷ 26 ∷ 27 ∷ 28 ∷ 29 
 abbrev pub containerNumbers : List ℕ
 containerNumbers = 1 ∷ 2 ∷ shareNumbers
 
--- The six parts lie one after the other, from the header's end to the share's last byte.
+-- The six parts lie one after the other, from the header's end to the share's last byte (S34).
 pub record InTurn (s : List ℕ) : Type 0 where
   -- the first begins at the header's end
   pub first : partAt 0 s ≡ keyAt
@@ -34,7 +34,7 @@ pub record InTurn (s : List ℕ) : Type 0 where
       ++ sharePart 5 s)))))
       ≡ s
 
--- Demand 1 of the check of a share, of any bytes.
+-- Demand 1 of the check of a share, of any bytes (D1).
 pub record Demand1Share (s : List ℕ) : Type 0 where
   -- the call ends in a number of the table
   pub number : Among (checkedOf s .number) shareNumbers
@@ -43,7 +43,7 @@ pub record Demand1Share (s : List ℕ) : Type 0 where
   -- accepted: nothing stands between the parts
   pub accepted : checkedOf s .number ≡ 0 → InTurn s
 
--- Demand 1 of the check of the share in a container, of any bytes.
+-- Demand 1 of the check of the share in a container, of any bytes (D1).
 pub record Demand1Container (c : List ℕ) : Type 0 where
   pub number : Among (checkedContainer c .number) containerNumbers
   pub refused : (checkedContainer c .number ≡ 0 → ⊥) → (i : ℕ) → i < 6

@@ -1,4 +1,4 @@
--- The check of the SDMF share of document 01.
+-- The check of the SDMF share (docs/RULES.md, S30 to S39).
 pub mod Share
 pub mod Facts
 pub mod Claims

@@ -1,4 +1,4 @@
--- What the checker answers for a share's bytes, and for a container that holds a share as its data.
+-- What the checker answers for a share's bytes, and for a container that holds a share as its data (S35 to S39).
 use Prim.Native.Nat.{ℕ, _+_}
 use mathlib.Core.Bool.{cond}
 use mathlib.Core.List.{List, map}
@@ -14,32 +14,32 @@ use Rattle.shares.specs.declared.share.Checked.{Checked}
 unfoldable pub boundsAt : ℕ → List ℕ → List ℕ
 boundsAt base s = map (λ b. base + b) (boundsOf s)
 
--- On a refusal all boundaries are 0, so that every part is empty and stands at the slice's start.
+-- On a refusal all boundaries are 0, so that every part is empty and stands at the slice's start (S36).
 abbrev pub refused : ℕ → Checked
 refused n = record { number = n; bounds = replicate 7 0 }
 
--- The number, and on 0 the boundaries.
+-- The number, and on 0 the boundaries (S35).
 unfoldable pub checkedAt : ℕ → List ℕ → Checked
 checkedAt base s =
     cond (eqb (shareOutcome s) 0) (record { number = 0; bounds = boundsAt base s }) (refused (shareOutcome s))
 
--- A share by itself begins at byte 0.
+-- A share by itself begins at byte 0 (S35).
 unfoldable pub checkedOf : List ℕ → Checked
 checkedOf s = checkedAt 0 s
 
--- Part i of a share, and where in the slice it begins.
+-- Part i of a share, and where in the slice it begins (S35).
 unfoldable pub sharePart : ℕ → List ℕ → List ℕ
 sharePart i s = partOf i (checkedOf s .bounds) s
 
 unfoldable pub partAt : ℕ → List ℕ → ℕ
 partAt i s = getD (checkedOf s .bounds) i 0
 
--- A share in a container is judged after the container, so 1 or 2 comes first; bounds count from the container's start.
+-- A share in a container is judged after it, so 1 or 2 comes first; bounds count from its first byte (S37 to S39).
 unfoldable pub checkedContainer : List ℕ → Checked
 checkedContainer c =
     cond (eqb (lentOf c .number) 0) (checkedAt (lentOf c .from) (dataLent c)) (refused (lentOf c .number))
 
--- Part i of the share in a container, and where in the container's slice it begins.
+-- Part i of the share in a container, and where in the container's slice it begins (S39).
 unfoldable pub containerPart : ℕ → List ℕ → List ℕ
 containerPart i c = partOf i (checkedContainer c .bounds) c
 

@@ -92,7 +92,7 @@ fn fill_nodes(s: &mut [u8]) {
     set8(s, 758, 16);
 }
 
-// The header of the 2,043-byte share of document 01, and the low bytes of its node numbers; every other byte is 0.
+// The header of the 2,043-byte share (docs/RULES.md, P11) and the low bytes of its node numbers; every other byte is 0.
 fn fill(s: &mut [u8]) {
     fill_numbers(s);
     fill_offsets(s);
@@ -137,7 +137,7 @@ fn short(name: &[u8], version: u8) {
 }
 
 fn first_rows() {
-    with8(b"the share of document 01", 0, 0);
+    with8(b"the share of 2,043 bytes", 0, 0);
     short(b"106 bytes", 0);
     show(b"no bytes", b"");
     with8(b"version 1", 0, 1);
