@@ -1,6 +1,7 @@
 // What C and Rust call: numbers and byte slices in, structs of numbers out. Nothing is asked of the caller.
 ghost use mathlib.Core.Path.{_≡_};
 ghost use Rattle.rules.specs.Outcomes.{createAnswer, createdContainer, answered, containerAfter, replyAfter};
+ghost use Rattle.container.specs.Looking.{readOf};
 ghost use Rattle.shares.specs.Share.{checkedOf, checkedContainer};
 use rules::Answer;
 use shares::share::Checked;
@@ -20,6 +21,14 @@ pub extern "C" fn beamsatchel_apply(c: &mut [u8], q: &[u8], r: &mut [u8]) -> Ans
     ensures { λ _. ⌜ now (r .exit) ≡ replyAfter (now (c .entry)) (now (q .entry)) (now (r .entry)) ⌝ }
 {
     container::requesting::apply(c, q, r)
+}
+
+#[no_mangle]
+pub extern "C" fn beamsatchel_read(c: &[u8], q: &[u8], r: &mut [u8]) -> Answer
+    ensures { λ x. ⌜ x ≡ answered (now (c .entry)) (readOf (now (q .entry))) (now (r .entry)) ⌝ }
+    ensures { λ _. ⌜ now (r .exit) ≡ replyAfter (now (c .entry)) (readOf (now (q .entry))) (now (r .entry)) ⌝ }
+{
+    container::looking::read_only(c, q, r)
 }
 
 #[no_mangle]

@@ -1,0 +1,28 @@
+-- What a caller may ask of a container that is lent for reading only. The claim is proved in proofs/LookingLaws.antt.
+use Prim.Native.Nat.{ℕ}
+use mathlib.Core.Path.{_≡_}
+use mathlib.Core.List.{List, []}
+use mathlib.Core.Option.{Option, none, some}
+use Rattle.octets.specs.Facts.{Octets}
+use Rattle.rules.specs.Requests.{Read, Request, testWrite, add, renew, cancel, read, requestOf}
+use Rattle.rules.specs.Outcomes.{containerAfter}
+
+-- The bytes q of a read, and no byte in place of anything else.
+unfoldable pub readBytes : Option Request → List ℕ → List ℕ
+readBytes none q = []
+readBytes (some (testWrite k ts ws cut)) q = []
+readBytes (some (add r)) q = []
+readBytes (some (renew t x)) q = []
+readBytes (some (cancel t)) q = []
+readBytes (some (read rs)) q = q
+
+-- The request of a caller that may only read: a read as it is, and the empty request for any other bytes.
+unfoldable pub readOf : List ℕ → List ℕ
+readOf q = readBytes (requestOf q) q
+
+-- Nothing is lost by lending the container so.
+pub record ReadOnly (c q r : List ℕ) : Type 0 where
+  -- every read passes
+  pub passes : (rs : List Read) → requestOf q ≡ some (read rs) → readOf q ≡ q
+  -- applied to a container that may be written, what passes leaves it as it was, done or refused
+  pub kept : Octets c → readOf q ≡ q → containerAfter c q r ≡ c
