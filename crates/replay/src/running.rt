@@ -1,4 +1,6 @@
 // Runs a file line by line, and stops at the first line that breaks the layout.
+use crate::reporting;
+use crate::reporting::Why;
 use crate::showing;
 use crate::showing::clip;
 use format::layout::LIMIT;
@@ -21,20 +23,37 @@ const BUFFER_SIZE: usize = LIMIT + 4;
 const REPLY_SIZE: usize = 8192;
 
 // What lines before this one have set: the lengths of the container, the request, the node id and the enabler, which
-// stand at the front of their buffers, and the last answer. A length never exceeds its buffer; `clip` spares the
-// proof of it.
+// stand at the front of their buffers; whether this container has answered, and its last answer; the requests of all
+// files so far. A length never exceeds its buffer; `clip` spares the proof of it.
 struct State {
     open: bool,
     length: usize,
     request: usize,
     node: usize,
     enabler: usize,
+    answered: bool,
     last: u32,
+    requests: u64,
 }
 
 enum Step {
     On(State),
-    Stop(Fault),
+    Stop(Why),
+}
+
+// The requests so far, or that the run has stopped with its message.
+pub(crate) enum Ran {
+    Done(u64),
+    Stopped,
+}
+
+// After an answer. The count wraps at 2^64, which no run reaches.
+fn with_answer(st: State, number: u32) -> State {
+    let mut next = st;
+    next.answered = true;
+    next.last = number;
+    next.requests = std::num::wrapping_add_u64(st.requests, 1);
+    next
 }
 
 // Shows the container before, if there is one, and leaves a line empty.
@@ -52,16 +71,17 @@ fn begin(s: &[u8], at: usize, st: State, c: &mut [u8]) -> Step
     requires { ⌜ at ≤ length (now s) ⌝ }
 {
     if st.request != 0 {
-        return Step::Stop(Fault::Begun);
+        return Step::Stop(Why::Begun);
     }
     match commands::only_number(s, at, BUFFER_SIZE as u32) {
-        Argument::Bad(f) => Step::Stop(f),
+        Argument::Bad(f) => Step::Stop(Why::Layout(f)),
         Argument::Number(n) => {
             close(st, c);
             octets::moves::clear(c);
             let mut next = st;
             next.open = true;
             next.length = n as usize;
+            next.answered = false;
             Step::On(next)
         }
     }
@@ -73,11 +93,11 @@ fn load(s: &[u8], at: usize, st: State, c: &mut [u8]) -> Step
 {
     let open = st.open;
     if !open {
-        return Step::Stop(Fault::NoBuffer);
+        return Step::Stop(Why::NoBuffer);
     }
     let n = clip(st.length, c);
     match items::put_items(s, at, &mut c[..n], 0) {
-        Put::Bad(f) => Step::Stop(f),
+        Put::Bad(f) => Step::Stop(Why::Layout(f)),
         Put::Done(_) => Step::On(st),
     }
 }
@@ -86,7 +106,7 @@ fn node(s: &[u8], at: usize, st: State, node: &mut [u8]) -> Step
     requires { ⌜ at ≤ length (now s) ⌝ }
 {
     match items::put_items(s, at, node, 0) {
-        Put::Bad(f) => Step::Stop(f),
+        Put::Bad(f) => Step::Stop(Why::Layout(f)),
         Put::Done(n) => {
             let mut next = st;
             next.node = n;
@@ -99,7 +119,7 @@ fn enabler(s: &[u8], at: usize, st: State, enabler: &mut [u8]) -> Step
     requires { ⌜ at ≤ length (now s) ⌝ }
 {
     match items::put_items(s, at, enabler, 0) {
-        Put::Bad(f) => Step::Stop(f),
+        Put::Bad(f) => Step::Stop(Why::Layout(f)),
         Put::Done(n) => {
             let mut next = st;
             next.enabler = n;
@@ -113,19 +133,17 @@ fn create(s: &[u8], at: usize, st: State, c: &mut [u8], node: &[u8], enabler: &[
 {
     let open = st.open;
     if !open {
-        return Step::Stop(Fault::NoBuffer);
+        return Step::Stop(Why::NoBuffer);
     }
     if !commands::ends(s, at) {
-        return Step::Stop(Fault::More);
+        return Step::Stop(Why::Layout(Fault::More));
     }
     let n = clip(st.length, c);
     let a = clip(st.node, node);
     let b = clip(st.enabler, enabler);
     let x = creation::create(&mut c[..n], &node[..a], &enabler[..b]);
     showing::created(x);
-    let mut next = st;
-    next.last = x.number;
-    Step::On(next)
+    Step::On(with_answer(st, x.number))
 }
 
 fn bytes(s: &[u8], at: usize, st: State, q: &mut [u8]) -> Step
@@ -133,7 +151,7 @@ fn bytes(s: &[u8], at: usize, st: State, q: &mut [u8]) -> Step
 {
     let k = clip(st.request, q);
     match items::put_items(s, at, q, k) {
-        Put::Bad(f) => Step::Stop(f),
+        Put::Bad(f) => Step::Stop(Why::Layout(f)),
         Put::Done(n) => {
             let mut next = st;
             next.request = n;
@@ -155,17 +173,16 @@ fn apply(s: &[u8], at: usize, st: State, c: &mut [u8], q: &[u8]) -> Step
 {
     let open = st.open;
     if !open {
-        return Step::Stop(Fault::NoBuffer);
+        return Step::Stop(Why::NoBuffer);
     }
     match commands::only_number(s, at, REPLY_SIZE as u32) {
-        Argument::Bad(f) => Step::Stop(f),
+        Argument::Bad(f) => Step::Stop(Why::Layout(f)),
         Argument::Number(n) => {
             let mut r = [170u8; REPLY_SIZE];
             let k = clip(st.request, q);
             let m = clip(n as usize, &r);
-            let mut next = st;
+            let mut next = with_answer(st, run_request(st, c, &q[..k], &mut r[..m]));
             next.request = 0;
-            next.last = run_request(st, c, &q[..k], &mut r[..m]);
             Step::On(next)
         }
     }
@@ -175,23 +192,17 @@ fn expect(s: &[u8], at: usize, st: State) -> Step
     requires { ⌜ at ≤ length (now s) ⌝ }
 {
     match commands::only_number(s, at, 12) {
-        Argument::Bad(f) => Step::Stop(f),
+        Argument::Bad(f) => Step::Stop(Why::Layout(f)),
         Argument::Number(n) => {
+            if !st.answered {
+                return Step::Stop(Why::NoAnswer);
+            }
             if n == st.last {
                 return Step::On(st);
             }
-            Step::Stop(Fault::Answer)
+            Step::Stop(Why::Answer(n, st.last))
         }
     }
-}
-
-// The rest of the line as it stands; the space behind the word indents it.
-fn say(s: &[u8], at: usize)
-    requires { ⌜ at ≤ length (now s) ⌝ }
-{
-    showing::write(b" ");
-    showing::write(&s[at..]);
-    showing::write(b"\n");
 }
 
 fn run_word(
@@ -216,10 +227,10 @@ fn run_word(
         Word::Apply => apply(s, at, st, c, q),
         Word::Expect => expect(s, at, st),
         Word::Say => {
-            say(s, at);
+            showing::said(&s[at..]);
             Step::On(st)
         }
-        Word::Unknown => Step::Stop(Fault::Word),
+        Word::Unknown => Step::Stop(Why::Layout(Fault::Word)),
     }
 }
 
@@ -234,36 +245,39 @@ fn run_line(
     match commands::command_of(s) {
         Command::Nothing => Step::On(st),
         Command::Do(w, at) => run_word(w, s, at, st, c, q, node_id, secret),
+        Command::Bad(f) => Step::Stop(Why::Layout(f)),
     }
 }
 
-// The end of a file: a request must not be left over.
-fn finish(name: &[u8], st: State, c: &[u8]) -> bool {
+// The end of a file, behind its last line: a request must not be left over.
+fn finish(name: &[u8], line: u64, st: State, c: &[u8]) -> Ran {
     if st.request != 0 {
-        showing::write(name);
-        showing::write(b": the last request was not applied\n");
-        return false;
+        reporting::stop_at_line(name, line, Why::LeftOver);
+        return Ran::Stopped;
     }
     close(st, c);
-    true
+    Ran::Done(st.requests)
 }
 
-// Runs all lines to the end of the file, or stops with a message.
+// Runs all lines to the end of the file, or stops with a message. The last line needs no line feed.
 fn run_lines(
     name: &[u8],
     t: &[u8],
+    requests: u64,
     c: &mut [u8],
     q: &mut [u8],
     node_id: &mut [u8],
     secret: &mut [u8],
-) -> bool {
+) -> Ran {
     let mut st = State {
         open: false,
         length: 0,
         request: 0,
         node: 0,
         enabler: 0,
-        last: 99,
+        answered: false,
+        last: 0,
+        requests,
     };
     let mut line: u64 = 0;
     let mut at = 0;
@@ -274,20 +288,20 @@ fn run_lines(
             Step::On(next) => {
                 st = next;
             }
-            Step::Stop(f) => {
-                showing::fault(name, line, f);
-                return false;
+            Step::Stop(why) => {
+                reporting::stop_at_line(name, line, why);
+                return Ran::Stopped;
             }
         }
         at = e + 1;
     }
-    finish(name, st, c)
+    finish(name, line, st, c)
 }
 
-pub(crate) fn run_text(name: &[u8], t: &[u8]) -> bool {
+pub(crate) fn run_text(name: &[u8], t: &[u8], requests: u64) -> Ran {
     let mut c = [0u8; BUFFER_SIZE];
     let mut q = [0u8; BUFFER_SIZE];
     let mut node_id = [0u8; 64];
     let mut secret = [0u8; 64];
-    run_lines(name, t, &mut c, &mut q, &mut node_id, &mut secret)
+    run_lines(name, t, requests, &mut c, &mut q, &mut node_id, &mut secret)
 }

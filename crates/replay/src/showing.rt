@@ -1,4 +1,5 @@
 // The transcript, on standard output.
+use crate::printing;
 use format::judging::Judged;
 use format::layout::EXPIRY_AT;
 use format::layout::FIXED_PLACES;
@@ -6,7 +7,6 @@ use format::layout::Frame;
 use format::layout::LEASES_AT;
 use format::layout::RECORD_SIZE;
 use libc::STDOUT_FILENO;
-use replaying::items::Fault;
 use replies::pieces::LENGTH_SIZE;
 use requests::cursors::Cursor;
 use rules::Answer;
@@ -22,11 +22,29 @@ const MOST_BYTES: usize = 128;
 const MOST_EXTRAS: usize = 4;
 
 pub(crate) fn write(text: &[u8]) {
-    io::write_all(STDOUT_FILENO, text);
+    printing::text(STDOUT_FILENO, text);
 }
 
-pub(crate) fn number(n: u64) {
-    io::print_decimal(STDOUT_FILENO, n);
+fn number(n: u64) {
+    printing::number(STDOUT_FILENO, n);
+}
+
+fn ascii(s: &[u8]) {
+    printing::ascii(STDOUT_FILENO, s);
+}
+
+// The head of a file's transcript.
+pub(crate) fn file(name: &[u8]) {
+    write(b"== ");
+    ascii(name);
+    write(b"\n");
+}
+
+// What a file says stands behind a space, and so is never taken for the verdict.
+pub(crate) fn said(s: &[u8]) {
+    write(b" ");
+    ascii(s);
+    write(b"\n");
 }
 
 // n, or all of s where that is less.
@@ -86,25 +104,6 @@ fn hex_cells(s: &[u8]) {
     let mut i = 0;
     while i < 16 {
         cell(s, i);
-        i += 1;
-    }
-}
-
-fn printable(b: u8) -> u8 {
-    if b < 32 {
-        return 46;
-    }
-    if 126 < b {
-        return 46;
-    }
-    b
-}
-
-fn ascii(s: &[u8]) {
-    let mut i = 0;
-    while i < s.len() {
-        let one = [printable(s[i])];
-        write(&one);
         i += 1;
     }
 }
@@ -348,28 +347,4 @@ pub(crate) fn share(c: &[u8]) {
     write(b"    no SDMF share: outcome ");
     number(checked.number as u64);
     write(b"\n");
-}
-
-// Why a line was refused.
-fn reason(f: Fault) {
-    match f {
-        Fault::Word => write(b": the line begins with no word that is known\n"),
-        Fault::NoNumber => write(b": a decimal number is missing\n"),
-        Fault::LargeNumber => write(b": the number is too large\n"),
-        Fault::Item => write(b": bytes are pairs of hex digits, =NUMBER or 'text'\n"),
-        Fault::Quote => write(b": the text has no closing quote\n"),
-        Fault::Room => write(b": these are too many bytes\n"),
-        Fault::More => write(b": there is more on the line than belongs there\n"),
-        Fault::NoBuffer => write(b": there is no buffer yet\n"),
-        Fault::Begun => write(b": a request was begun and not applied\n"),
-        Fault::Answer => write(b": the last answer was another\n"),
-    }
-}
-
-// The file and the line that was refused, and why.
-pub(crate) fn fault(name: &[u8], line: u64, f: Fault) {
-    write(name);
-    write(b", line ");
-    number(line);
-    reason(f);
 }

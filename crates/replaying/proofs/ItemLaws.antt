@@ -8,18 +8,21 @@ use native.Mathlib.Omega.{arith}
 use lib.Dec.{eqb, ltb}
 use lib.ListN.{length, take, drop, getD, replicate, take-append-drop, length-append, length-take, length-drop}
 use lib.ListN.{length-replicate}
-use borrow.Author.Tests.{ltb-true}
+use borrow.Author.Tests.{ltb-true, lt-ltb, le-ltb}
 use Rattle.octets.specs.Numbers.{digits}
 use Rattle.octets.specs.Moves.{put}
 use Rattle.octets.proofs.MoveLaws.{put-put}
 use Rattle.octets.proofs.NumberLaws.{length-digits}
 use Rattle.replaying.specs.Numerals.{reaches}
 use Rattle.replaying.specs.Items.{inside, standsAt, numberOf, negativeOf, repeatOf, itemAt, bytesThen}
-use Rattle.replaying.specs.Items.{lineBytes, rightThen, lineRight, Went}
+use Rattle.replaying.specs.Items.{lineBytes, rightThen, lineRight, answerThen, lineAnswer, Went}
 use Rattle.replaying.specs.declared.numerals.Decimal.{Decimal}
 use Rattle.replaying.specs.declared.numerals.Decimal.the-variants.{Missing, TooLarge, Value}
 use Rattle.replaying.specs.declared.items.Fault.{Fault}
+use Rattle.replaying.specs.declared.items.Fault.the-variants.{Room}
 use Rattle.replaying.specs.declared.items.Item.the-variants.{End, Repeat, Number, Text, Bad}
+use Rattle.replaying.specs.declared.items.Put.the-variants.{Done as PutDone}
+use Rattle.replaying.specs.declared.items.Put.the-variants.{Bad as PutBad}
 
 -- A byte that stands at a position stands inside.
 pub stands-inside : (s : List ℕ) (at b : ℕ) → standsAt s at b ≡ true → at < length s
@@ -35,17 +38,17 @@ stands-inside s at b e = go (ltb at (length s)) refl e
 module _ (n : ℕ) where
   pub number-inside : (d : Decimal) → reaches n d → inside n (numberOf d)
   number-inside Missing h = tt
-  number-inside TooLarge h = tt
+  number-inside (TooLarge most) h = tt
   number-inside (Value v next) h = h
 
   pub negative-inside : (d : Decimal) → reaches n d → inside n (negativeOf d)
   negative-inside Missing h = tt
-  negative-inside TooLarge h = tt
+  negative-inside (TooLarge most) h = tt
   negative-inside (Value v next) h = h
 
   pub repeat-inside : (b : ℕ) (d : Decimal) → reaches n d → inside n (repeatOf b d)
   repeat-inside b Missing h = tt
-  repeat-inside b TooLarge h = tt
+  repeat-inside b (TooLarge most) h = tt
   repeat-inside b (Value v next) h = h
 
 -- The bytes of a line by its next item.
@@ -115,6 +118,55 @@ module _ (s : List ℕ) (at : ℕ) where
   pub full-text : (a e next : ℕ) → itemAt s at ≡ Text a e next → (d m : ℕ) → e ≤ length s → d < m + (e - a) → (n : ℕ)
       → d < m + length (lineBytes (suc n) s at)
   full-text a e next q d m k h n = rw (line-text s at a e next q n, length-append, text-length s a e k) (omega arith)
+
+-- What the line is answered, by its next item and by whether that has room.
+module _ (s : List ℕ) (at room k : ℕ) where
+  pub answer-end : itemAt s at ≡ End → (n : ℕ) → lineAnswer (suc n) s at room k ≡ PutDone k
+  unfolding lineAnswer answerThen
+  answer-end e n = rw e
+
+  pub answer-bad : (f : Fault) → itemAt s at ≡ Bad f → (n : ℕ) → lineAnswer (suc n) s at room k ≡ PutBad f
+  unfolding lineAnswer answerThen
+  answer-bad f e n = rw e
+
+  pub answer-repeat : (b t next : ℕ) → itemAt s at ≡ Repeat b t next → t ≤ room - k → (n : ℕ)
+      → lineAnswer (suc n) s at room k ≡ lineAnswer n s next room (k + t)
+  unfolding lineAnswer answerThen
+  answer-repeat b t next e h n = rw (e, le-ltb (room - k) t h)
+
+  pub answer-number : (v next : ℕ) → itemAt s at ≡ Number v next → 4 ≤ room - k → (n : ℕ)
+      → lineAnswer (suc n) s at room k ≡ lineAnswer n s next room (k + 4)
+  unfolding lineAnswer answerThen
+  answer-number v next e h n = rw (e, le-ltb (room - k) 4 h)
+
+  pub answer-text : (a e next : ℕ) → itemAt s at ≡ Text a e next → e - a ≤ room - k → (n : ℕ)
+      → lineAnswer (suc n) s at room k ≡ lineAnswer n s next room (k + (e - a))
+  unfolding lineAnswer answerThen
+  answer-text a e next q h n = rw (q, le-ltb (room - k) (e - a) h)
+
+  pub refused-repeat : (b t next : ℕ) → itemAt s at ≡ Repeat b t next → room - k < t → (n : ℕ)
+      → lineAnswer (suc n) s at room k ≡ PutBad (Room room)
+  unfolding lineAnswer answerThen
+  refused-repeat b t next e h n = rw (e, lt-ltb (room - k) t h)
+
+  pub refused-number : (v next : ℕ) → itemAt s at ≡ Number v next → room - k < 4 → (n : ℕ)
+      → lineAnswer (suc n) s at room k ≡ PutBad (Room room)
+  unfolding lineAnswer answerThen
+  refused-number v next e h n = rw (e, lt-ltb (room - k) 4 h)
+
+  pub refused-text : (a e next : ℕ) → itemAt s at ≡ Text a e next → room - k < e - a → (n : ℕ)
+      → lineAnswer (suc n) s at room k ≡ PutBad (Room room)
+  unfolding lineAnswer answerThen
+  refused-text a e next q h n = rw (q, lt-ltb (room - k) (e - a) h)
+
+  pub answer-none : lineAnswer 0 s at room k ≡ PutDone k
+  unfolding lineAnswer
+  answer-none = refl
+
+-- The same number of items, and a room as long.
+pub answer-same : (s : List ℕ) (at k n n' room room' : ℕ) → n ≡ n' → room ≡ room' → lineAnswer n s at room k
+    ≡ lineAnswer n' s at room' k
+answer-same s at k n n' room room' e h = rw (e, h)
 
 -- Putting nothing.
 pub put-nil : (k : ℕ) (d : List ℕ) → put k [] d ≡ d

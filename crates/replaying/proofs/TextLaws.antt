@@ -59,7 +59,7 @@ module _ (ds : List ℕ) (next most : ℕ) where
   unfolding decimalOf
   decimal-none e = rw (eq-eqb (length ds) 0 e)
 
-  pub decimal-large : 0 < length ds → most < valueOf ds → decimalOf ds next most ≡ TooLarge
+  pub decimal-large : 0 < length ds → most < valueOf ds → decimalOf ds next most ≡ TooLarge most
   unfolding decimalOf
   decimal-large h k = rw (ne-eqb (length ds) 0 (λ e. omega arith), lt-ltb most (valueOf ds) k)
 

@@ -11,13 +11,14 @@ use Rattle.replaying.specs.Items.{itemAt}
 use Rattle.replaying.specs.declared.scanning.Sort.the-variants.{But, Only}
 use Rattle.replaying.specs.declared.numerals.Decimal.{Decimal}
 use Rattle.replaying.specs.declared.numerals.Decimal.the-variants.{Missing, TooLarge, Value}
-use Rattle.replaying.specs.declared.items.Fault.the-variants.{NoNumber, LargeNumber, More}
+use Rattle.replaying.specs.declared.items.Fault.the-variants.{Return, NoNumber, Above, More}
 use Rattle.replaying.specs.declared.items.Item.{Item}
 use Rattle.replaying.specs.declared.items.Item.the-variants.{End, Repeat, Text}
 use Rattle.replaying.specs.declared.items.Item.the-variants.{Number as FourBytes}
 use Rattle.replaying.specs.declared.items.Item.the-variants.{Bad as NoItem}
 use Rattle.replaying.specs.declared.commands.Command.{Command}
 use Rattle.replaying.specs.declared.commands.Command.the-variants.{Nothing, Do}
+use Rattle.replaying.specs.declared.commands.Command.the-variants.{Bad as NoCommand}
 use Rattle.replaying.specs.declared.commands.Argument.{Argument}
 use Rattle.replaying.specs.declared.commands.Argument.the-variants.{Number, Bad}
 use Rattle.replaying.specs.declared.commands.Word.{Word}
@@ -47,14 +48,16 @@ commandHere s at = cond (eqb (getD s at 0) 35) Nothing (wordTo s at (at + run (B
 unfoldable pub commandFrom : List ℕ → ℕ → Command
 commandFrom s p = cond (ltb p (length s)) (commandHere s p) Nothing
 
--- The command of a line, behind spaces.
+-- The command of a line, behind spaces; a carriage return stands nowhere in the line.
 unfoldable pub commandOf : List ℕ → Command
-commandOf s = commandFrom s (0 + run (Only 32) (drop 0 s))
+commandOf s = cond (ltb (0 + run (But 13) (drop 0 s)) (length s)) (NoCommand Return)
+    (commandFrom s (0 + run (Only 32) (drop 0 s)))
 
 -- The position behind a word is at most n.
 abbrev pub followed : ℕ → Command → Type 0
 followed n Nothing = Unit
 followed n (Do w next) = next ≤ n
+followed n (NoCommand f) = Unit
 
 abbrev pub isEnd : Item → Bool
 isEnd End = true
@@ -69,7 +72,7 @@ endsAt s at = isEnd (itemAt s at)
 
 abbrev pub argumentOf : List ℕ → Decimal → Argument
 argumentOf s Missing = Bad NoNumber
-argumentOf s TooLarge = Bad LargeNumber
+argumentOf s (TooLarge most) = Bad (Above most)
 argumentOf s (Value v next) = cond (endsAt s next) (Number v) (Bad More)
 
 -- The number behind spaces, where nothing follows it.

@@ -16,7 +16,7 @@ use Rattle.replaying.specs.declared.numerals.Decimal.the-variants.{Missi
 use Rattle.replaying.specs.declared.numerals.Pair.{Pair}
 use Rattle.replaying.specs.declared.numerals.Pair.the-variants.{Byte}
 use Rattle.replaying.specs.declared.numerals.Pair.the-variants.{Missing as NoPair}
-use Rattle.replaying.specs.declared.items.Fault.the-variants.{NoNumber, LargeNumber, Quote}
+use Rattle.replaying.specs.declared.items.Fault.the-variants.{NoNumber, Above, Below, Quote, Room}
 use Rattle.replaying.specs.declared.items.Fault.the-variants.{Item as NoItem}
 use Rattle.replaying.specs.declared.items.Item.{Item}
 use Rattle.replaying.specs.declared.items.Item.the-variants.{End, Repeat, Number, Text, Bad}
@@ -49,17 +49,17 @@ negated v = (4294967296 - v) % 4294967296
 
 abbrev pub numberOf : Decimal → Item
 numberOf Missing = Bad NoNumber
-numberOf TooLarge = Bad LargeNumber
+numberOf (TooLarge most) = Bad (Above most)
 numberOf (Value v next) = Number v next
 
 abbrev pub negativeOf : Decimal → Item
 negativeOf Missing = Bad NoNumber
-negativeOf TooLarge = Bad LargeNumber
+negativeOf (TooLarge most) = Bad (Below most)
 negativeOf (Value v next) = Number (negated v) next
 
 abbrev pub repeatOf : ℕ → Decimal → Item
 repeatOf b Missing = Bad NoNumber
-repeatOf b TooLarge = Bad LargeNumber
+repeatOf b (TooLarge most) = Bad (Above most)
 repeatOf b (Value v next) = Repeat b v next
 
 -- Whether b stands at a position.
@@ -124,6 +124,19 @@ unfoldable pub lineRight : ℕ → List ℕ → ℕ → Bool
 lineRight zero s at = true
 lineRight (suc n) s at = rightThen (itemAt s at) (λ next. lineRight n s next)
 
+-- What a line is answered where k bytes of the room are taken: by one item, and then by the items from its end on; by
+-- the first n items. Bytes that the room does not hold are refused at the first item that reaches beyond it.
+unfoldable pub answerThen : ℕ → ℕ → Item → (ℕ → ℕ → Put) → Put
+answerThen room k End rest = PutDone k
+answerThen room k (Repeat b times next) rest = cond (ltb (room - k) times) (PutBad (Room room)) (rest next (k + times))
+answerThen room k (Number v next) rest = cond (ltb (room - k) 4) (PutBad (Room room)) (rest next (k + 4))
+answerThen room k (Text a e next) rest = cond (ltb (room - k) (e - a)) (PutBad (Room room)) (rest next (k + (e - a)))
+answerThen room k (Bad f) rest = PutBad f
+
+unfoldable pub lineAnswer : ℕ → List ℕ → ℕ → ℕ → ℕ → Put
+lineAnswer zero s at room k = PutDone k
+lineAnswer (suc n) s at room k = answerThen room k (itemAt s at) (λ next m. lineAnswer n s next room m)
+
 -- One item's bytes bs were put into d at k, which made it d'; the rest of the line begins at next.
 pub record Went (s : List ℕ) (at : ℕ) (d : List ℕ) (k : ℕ) (d' : List ℕ) (next m : ℕ) (bs : List ℕ) : Type 0 where
   pub goes : (n : ℕ) → lineBytes (suc n) s at ≡ bs ++ lineBytes n s next
@@ -148,6 +161,12 @@ abbrev pub Stepped : List ℕ → ℕ → List ℕ → ℕ → List ℕ → Step
 Stepped s at d k d' (On next m) = (bs : List ℕ) × Went s at d k d' next m bs
 Stepped s at d k d' (StepDone m) = Ended s at d k d' m
 Stepped s at d k d' (StepBad f) = Stopped s at d k
+
+-- One item leads to the line's answer.
+abbrev pub Leads : List ℕ → ℕ → ℕ → ℕ → Step → Type 0
+Leads s at room k (On next m) = (n : ℕ) → lineAnswer (suc n) s at room k ≡ lineAnswer n s next room m
+Leads s at room k (StepDone m) = (n : ℕ) → lineAnswer (suc n) s at room k ≡ PutDone m
+Leads s at room k (StepBad f) = (n : ℕ) → lineAnswer (suc n) s at room k ≡ PutBad f
 
 -- A line with the bytes bs and the given rightness was taken: its bytes stand in the buffer from k on, up to the count.
 -- Or it was not: an item is bad, or the bytes have no room.

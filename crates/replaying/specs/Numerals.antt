@@ -25,11 +25,11 @@ valueOf ds = valueAfter 0 ds
 abbrev pub Capped : ℕ → ℕ → ℕ → Type 0
 Capped most v r = (r ≤ most → r ≡ v) × (most < r → most < v)
 
--- The number whose digits are ds, with the position behind it: no digit, above the bound, or its value.
+-- The number whose digits are ds, with the position behind it: no digit, above the bound `most`, or its value.
 unfoldable pub decimalOf : List ℕ → ℕ → ℕ → Decimal
 decimalOf ds next most =
     cond (eqb (length ds) 0) Missing
-    (cond (ltb most (valueOf ds)) TooLarge (Value (valueOf ds) next))
+    (cond (ltb most (valueOf ds)) (TooLarge most) (Value (valueOf ds) next))
 
 -- The number at a position: its digits are the run of digits there.
 unfoldable pub decimalTo : List ℕ → ℕ → ℕ → ℕ → Decimal
@@ -41,7 +41,7 @@ decimalAt s at most = decimalTo s at (at + run Digit (drop at s)) most
 -- The position behind a number is at most n.
 abbrev pub reaches : ℕ → Decimal → Type 0
 reaches n Missing = Unit
-reaches n TooLarge = Unit
+reaches n (TooLarge most) = Unit
 reaches n (Value v next) = next ≤ n
 
 -- The value of a hexadecimal digit, 0 to 9, A to F or a to f; 16 of any other byte.

@@ -27,10 +27,11 @@ pub enum Word {
     Unknown,
 }
 
-// A line: nothing to do, or a word and the position behind it.
+// A line: nothing to do, a word and the position behind it, or why not.
 pub enum Command {
     Nothing,
     Do(Word, usize),
+    Bad(Fault),
 }
 
 // The one number of a line, or why not.
@@ -87,10 +88,14 @@ fn command_here(s: &[u8], at: usize) -> Command
     Command::Do(word_of(&s[at..e]), e)
 }
 
-// The command of a line; a line may be empty or a comment.
+// The command of a line; a line may be empty or a comment. A carriage return stands nowhere in it: most often it is
+// the end of a line of another system.
 pub fn command_of(s: &[u8]) -> Command
     ensures { λ r. ⌜ (r ≡ commandOf (now (s .entry))) × followed (length (now (s .entry))) r ⌝ }
 {
+    if scanning::run_end(s, 0, Sort::But(13)) < s.len() {
+        return Command::Bad(Fault::Return);
+    }
     let p = scanning::run_end(s, 0, Sort::Only(32));
     if p < s.len() {
         return command_here(s, p);
@@ -120,7 +125,7 @@ pub fn only_number(s: &[u8], at: usize, most: u32) -> Argument
     let p = scanning::run_end(s, at, Sort::Only(32));
     match numerals::decimal_at(s, p, most) {
         Decimal::Missing => Argument::Bad(Fault::NoNumber),
-        Decimal::TooLarge => Argument::Bad(Fault::LargeNumber),
+        Decimal::TooLarge(bound) => Argument::Bad(Fault::Above(bound)),
         Decimal::Value(v, next) => {
             if ends(s, next) {
                 return Argument::Number(v);

@@ -10,23 +10,25 @@ ghost use lib.ListN.{length, replicate};
 ghost use Rattle.octets.specs.Moves.{put};
 ghost use Rattle.replaying.specs.Items.{inside, textAt, negated, numberOf, negativeOf, repeatOf, standsAt};
 ghost use Rattle.replaying.specs.Items.{numeralAt, repeatAt, itemHere, itemAt, lineRight, lineBytes, Stepped};
-ghost use Rattle.replaying.specs.Items.{Written};
+ghost use Rattle.replaying.specs.Items.{Written, Leads, lineAnswer};
 
 // The largest N of XX*N: enough for a container or a request that is a little too long.
 const MOST_REPEATS: u32 = 65540;
 
-// Why a line is refused; the last three are for whoever runs the lines.
+// Why a line is refused.
 pub enum Fault {
+    Return,
     Word,
     NoNumber,
-    LargeNumber,
+    // The number is above this bound.
+    Above(u32),
+    // The number is below minus this bound.
+    Below(u32),
     Item,
     Quote,
-    Room,
+    // The bytes are more than this room holds.
+    Room(usize),
     More,
-    NoBuffer,
-    Begun,
-    Answer,
 }
 
 // What stands next on a line; each but the first and the last ends with the position behind it.
@@ -80,7 +82,7 @@ fn number_item(d: Decimal) -> Item
 {
     match d {
         Decimal::Missing => Item::Bad(Fault::NoNumber),
-        Decimal::TooLarge => Item::Bad(Fault::LargeNumber),
+        Decimal::TooLarge(bound) => Item::Bad(Fault::Above(bound)),
         Decimal::Value(v, next) => Item::Number(v, next),
     }
 }
@@ -90,7 +92,7 @@ fn negative_item(d: Decimal) -> Item
 {
     match d {
         Decimal::Missing => Item::Bad(Fault::NoNumber),
-        Decimal::TooLarge => Item::Bad(Fault::LargeNumber),
+        Decimal::TooLarge(bound) => Item::Bad(Fault::Below(bound)),
         Decimal::Value(v, next) => Item::Number(negative(v), next),
     }
 }
@@ -100,7 +102,7 @@ fn repeat_item(b: u8, d: Decimal) -> Item
 {
     match d {
         Decimal::Missing => Item::Bad(Fault::NoNumber),
-        Decimal::TooLarge => Item::Bad(Fault::LargeNumber),
+        Decimal::TooLarge(bound) => Item::Bad(Fault::Above(bound)),
         Decimal::Value(v, next) => Item::Repeat(b, v as usize, next),
     }
 }
@@ -194,28 +196,30 @@ fn put_repeat(d: &mut [u8], at: usize, b: u8, times: usize)
 // Puts the bytes of the next item into d from k on.
 fn put_item(s: &[u8], at: usize, d: &mut [u8], k: usize) -> Step
     requires { ⌜ (at ≤ length (now s)) × (k ≤ length (now d)) ⌝ }
-    ensures { λ r. ⌜ Stepped (now (s .entry)) at (now (d .entry)) k (now (d .exit)) r ⌝ }
+    ensures { λ r. ⌜ Stepped (now (s .entry)) at (now (d .entry)) k (now (d .exit)) r
+        × Leads (now (s .entry)) at (length (now (d .entry))) k r ⌝ }
 {
+    let room = d.len();
     match next_item(s, at) {
         Item::End => Step::Done(k),
         Item::Bad(f) => Step::Bad(f),
         Item::Repeat(b, times, next) => {
-            if d.len() - k < times {
-                return Step::Bad(Fault::Room);
+            if room - k < times {
+                return Step::Bad(Fault::Room(room));
             }
             put_repeat(d, k, b, times);
             Step::On(next, k + times)
         }
         Item::Number(v, next) => {
-            if d.len() - k < 4 {
-                return Step::Bad(Fault::Room);
+            if room - k < 4 {
+                return Step::Bad(Fault::Room(room));
             }
             octets::numbers::put_u32(d, k, v);
             Step::On(next, k + 4)
         }
         Item::Text(a, e, next) => {
-            if d.len() - k < e - a {
-                return Step::Bad(Fault::Room);
+            if room - k < e - a {
+                return Step::Bad(Fault::Room(room));
             }
             octets::moves::copy_part(d, k, &s[a..e]);
             Step::On(next, k + (e - a))
@@ -227,7 +231,8 @@ fn put_item(s: &[u8], at: usize, d: &mut [u8], k: usize) -> Step
 pub fn put_items(s: &[u8], at: usize, d: &mut [u8], k: usize) -> Put
     requires { ⌜ (at ≤ length (now s)) × (k ≤ length (now d)) ⌝ }
     ensures { λ r. ⌜ Written (lineRight (length (now (s .entry)) + 1) (now (s .entry)) at)
-        (lineBytes (length (now (s .entry)) + 1) (now (s .entry)) at) (now (d .entry)) k (now (d .exit)) r ⌝ }
+        (lineBytes (length (now (s .entry)) + 1) (now (s .entry)) at) (now (d .entry)) k (now (d .exit)) r
+        × (r ≡ lineAnswer (length (now (s .entry)) + 1) (now (s .entry)) at (length (now (d .entry))) k) ⌝ }
 {
     let mut left = s.len() + 1;
     let mut p = at;

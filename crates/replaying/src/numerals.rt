@@ -6,10 +6,10 @@ ghost use Prim.Native.Nat.{_+_, _-_, _≤_};
 ghost use lib.ListN.{length};
 ghost use Rattle.replaying.specs.Numerals.{Capped, valueOf, decimalAt, reaches, hexOf, pairAt};
 
-// A decimal number: no digit, a value above the bound, or the value and the position behind it.
+// A decimal number: no digit, a value above the bound, which it names, or the value and the position behind it.
 pub(crate) enum Decimal {
     Missing,
-    TooLarge,
+    TooLarge(u32),
     Value(u32, usize),
 }
 
@@ -50,7 +50,7 @@ pub(crate) fn decimal_at(s: &[u8], at: usize, most: u32) -> Decimal
     }
     let v = value(&s[at..e], most);
     if (most as u64) < v {
-        return Decimal::TooLarge;
+        return Decimal::TooLarge(most);
     }
     Decimal::Value(v as u32, e)
 }

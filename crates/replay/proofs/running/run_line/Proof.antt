@@ -16,6 +16,9 @@ run-word-requires : tie.Need-run-word-requires
 run-word-requires c κs = rw (c .before .before .before .before .before .w .given .1) at
     (c .before .before .before .before .before .before .before .command-of .ensures .1)
 
+enum-known-f : tie.Need-enum-known-f
+enum-known-f c = search needs
+
 returns : tie.Need-returns
 returns c = search needs
 
@@ -34,6 +37,9 @@ same-length-4 c = search needs
 returns-2 : tie.Need-returns-2
 returns-2 c = search needs
 
+returns-3 : tie.Need-returns-3
+returns-3 c = search needs
+
 pub run-line-spec : {M : Type 1} → statement M
 run-line-spec =
     tie.close
@@ -42,9 +48,11 @@ run-line-spec =
     enum-told
     enum-known-w
     run-word-requires
+    enum-known-f
     returns
     same-length
     same-length-2
     same-length-3
     same-length-4
-    returns-2)
+    returns-2
+    returns-3)

@@ -8,7 +8,7 @@ use Rattle.replay.proofs.running.run_lines.Statement.{statement}
 use Rattle.replay.proofs.running.run_lines.Tie as tie
 
 abbrev Inv-loop : tie.InvT-loop
-Inv-loop name t c₀ q₀ node-id₀ secret₀ st₀ line₀ at₀ c q node-id secret st line at =
+Inv-loop name t requests c₀ q₀ node-id₀ secret₀ st₀ line₀ at₀ c q node-id secret st line at =
     (line ≤ at)
     × (at ≤ length t + 1)
     × (length c ≡ length c₀)
@@ -17,7 +17,7 @@ Inv-loop name t c₀ q₀ node-id₀ secret₀ st₀ line₀ at₀ c q node-id s
     × (length secret ≡ length secret₀)
 
 abbrev μ-loop : tie.MeasureT-loop
-μ-loop name t c₀ q₀ node-id₀ secret₀ st₀ line₀ at₀ c q node-id secret st line at = length t + 1 - at
+μ-loop name t requests c₀ q₀ node-id₀ secret₀ st₀ line₀ at₀ c q node-id secret st line at = length t + 1 - at
 
 loop-holds : tie.Need-loop-holds Inv-loop μ-loop
 loop-holds c = (omega arith, omega arith, omega arith, omega arith, omega arith, omega arith)
@@ -43,11 +43,11 @@ run-line-requires c κs = tt
 enum-known-next : tie.Need-enum-known-next Inv-loop μ-loop
 enum-known-next c = search needs
 
-enum-known-f : tie.Need-enum-known-f Inv-loop μ-loop
-enum-known-f c = search needs
+enum-known-why : tie.Need-enum-known-why Inv-loop μ-loop
+enum-known-why c = search needs
 
-fault-requires : tie.Need-fault-requires Inv-loop μ-loop
-fault-requires c κs = tt
+stop-at-line-requires : tie.Need-stop-at-line-requires Inv-loop μ-loop
+stop-at-line-requires c κs = tt
 
 same-length : tie.Need-same-length Inv-loop μ-loop
 same-length c = omega arith
@@ -109,8 +109,8 @@ run-lines-spec =
     part-run-line-end
     run-line-requires
     enum-known-next
-    enum-known-f
-    fault-requires
+    enum-known-why
+    stop-at-line-requires
     same-length
     same-length-2
     same-length-3

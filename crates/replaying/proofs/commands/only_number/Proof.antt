@@ -14,8 +14,8 @@ decimal-at-requires c κs = search needs
 enum-told : tie.Need-enum-told
 enum-told c = search needs
 
-enum-told-2 : tie.Need-enum-told-2
-enum-told-2 c = search needs
+enum-known-bound : tie.Need-enum-known-bound
+enum-known-bound c = search needs
 
 enum-known-v : tie.Need-enum-known-v
 enum-known-v c = search needs
@@ -43,9 +43,9 @@ returns-2 c = rw (
 returns-3 : tie.Need-returns-3
 unfolding argumentAt
 returns-3 c = rw (
-  ← c .before .before .before .run-end .ensures .0,
-  ← c .before .before .decimal-at .ensures .0,
-  c .enum-told2 .given .1,
+  ← c .before .before .before .before .run-end .ensures .0,
+  ← c .before .before .before .decimal-at .ensures .0,
+  c .before .bound .given .1,
 )
 
 returns-4 : tie.Need-returns-4
@@ -64,7 +64,7 @@ only-number-spec =
     run-end-requires
     decimal-at-requires
     enum-told
-    enum-told-2
+    enum-known-bound
     enum-known-v
     ends-requires
     returns

@@ -6,11 +6,11 @@ use Rattle.replaying.proofs.items.negative_item.Tie as tie
 enum-told : tie.Need-enum-told
 enum-told c = search needs
 
-enum-told-2 : tie.Need-enum-told-2
-enum-told-2 c = search needs
-
 enum-known-d : tie.Need-enum-known-d
 enum-known-d c = search needs
+
+enum-known-d-2 : tie.Need-enum-known-d-2
+enum-known-d-2 c = search needs
 
 negative-requires : tie.Need-negative-requires
 negative-requires c κs = search needs
@@ -19,12 +19,12 @@ returns : tie.Need-returns
 returns c = rw (c .enum-told .given .1)
 
 returns-2 : tie.Need-returns-2
-returns-2 c = rw (c .enum-told2 .given .1)
+returns-2 c = rw (c .before .d .given .1)
 
 returns-3 : tie.Need-returns-3
-returns-3 c = rw (c .negative .ensures, c .before .before .d .given .1)
+returns-3 c = rw (c .negative .ensures, c .before .before .d2 .given .1)
 
 pub negative-item-spec : {M : Type 1} → statement M
 negative-item-spec =
     tie.close
-    (tie.spec enum-told enum-told-2 enum-known-d negative-requires returns returns-2 returns-3)
+    (tie.spec enum-told enum-known-d enum-known-d-2 negative-requires returns returns-2 returns-3)

@@ -9,7 +9,8 @@ use Rattle.octets.proofs.NumberLaws.{length-digits}
 use Rattle.replaying.specs.Items.{inside}
 use Rattle.replaying.proofs.ItemLaws.{line-end, line-repeat, line-number, line-text, right-end, right-repeat}
 use Rattle.replaying.proofs.ItemLaws.{right-number, right-text, right-bad, text-length, full-repeat}
-use Rattle.replaying.proofs.ItemLaws.{full-number, full-text}
+use Rattle.replaying.proofs.ItemLaws.{full-number, full-text, answer-end, answer-bad, answer-repeat}
+use Rattle.replaying.proofs.ItemLaws.{answer-number, answer-text, refused-repeat, refused-number, refused-text}
 use Rattle.replaying.specs.declared.items.Item.the-variants.{Text}
 use borrow.Author.Needs.{needs}
 use Rattle.replaying.proofs.items.put_item.Statement.{statement}
@@ -38,14 +39,16 @@ sub-if1 c = search needs
 
 returns : tie.Need-returns
 returns c =
-    λ n. inr (full-repeat _ _ _ _ _ (sym (c .before .before .before .before .next-item .ensures .0)
-    ∙ c .before .before .b .given .1) _ _ (omega arith) n)
+    let e = sym (c .before .before .before .before .next-item .ensures .0) ∙ c .before .before .b .given .1 in (
+      λ n. inr (full-repeat _ _ _ _ _ e _ _ (omega arith) n),
+      refused-repeat _ _ _ _ _ _ _ e (c .if1 .taken),
+    )
 
 put-repeat-requires : tie.Need-put-repeat-requires
 put-repeat-requires c κs = search needs
 
-add-t16 : tie.Need-add-t16
-add-t16 c = search needs
+add-t17 : tie.Need-add-t17
+add-t17 c = search needs
 
 enum-known-v : tie.Need-enum-known-v
 enum-known-v c = search needs
@@ -55,8 +58,10 @@ sub-if2 c = search needs
 
 returns-2 : tie.Need-returns-2
 returns-2 c =
-    λ n. inr (full-number _ _ _ _ (sym (c .before .before .before .before .next-item .ensures .0)
-    ∙ c .before .before .v .given .1) _ _ (omega arith) n)
+    let e = sym (c .before .before .before .before .next-item .ensures .0) ∙ c .before .before .v .given .1 in (
+      λ n. inr (full-number _ _ _ _ e _ _ (omega arith) n),
+      refused-number _ _ _ _ _ _ e (c .if2 .taken),
+    )
 
 put-u32-requires : tie.Need-put-u32-requires
 put-u32-requires c κs = search needs
@@ -76,8 +81,10 @@ sub-if3-2 c = text-inside (c .before) .0
 returns-3 : tie.Need-returns-3
 returns-3 c =
     let h = text-inside (c .before .before) in
-    λ n. inr (full-text _ _ _ _ _ (sym (c .before .before .before .before .next-item .ensures .0)
-    ∙ c .before .before .a .given .1) _ _ (h .1) (omega arith) n)
+    let e = sym (c .before .before .before .before .next-item .ensures .0) ∙ c .before .before .a .given .1 in (
+      λ n. inr (full-text _ _ _ _ _ e _ _ (h .1) (omega arith) n),
+      refused-text _ _ _ _ _ _ _ e (c .if3 .taken),
+    )
 
 sub-copy-part : tie.Need-sub-copy-part
 sub-copy-part c = text-inside (c .before .before .before) .0
@@ -91,20 +98,21 @@ part-copy-part-end c = text-inside (c .before .before .before) .1
 copy-part-requires : tie.Need-copy-part-requires
 copy-part-requires c κs = search needs
 
-sub-t31 : tie.Need-sub-t31
-sub-t31 c = text-inside (c .before .before .before .before .before .before .before) .0
+sub-t30 : tie.Need-sub-t30
+sub-t30 c = text-inside (c .before .before .before .before .before .before .before) .0
 
-add-t30 : tie.Need-add-t30
-add-t30 c = search needs
+add-t29 : tie.Need-add-t29
+add-t29 c = search needs
 
 returns-4 : tie.Need-returns-4
 returns-4 c =
     let e = sym (c .before .before .next-item .ensures .0) ∙ c .enum-told .given .1 in
-    record { none = line-end _ _ e; right = right-end _ _ e; count = refl; same = refl }
+    (record { none = line-end _ _ e; right = right-end _ _ e; count = refl; same = refl }, answer-end _ _ _ _ e)
 
 returns-5 : tie.Need-returns-5
-returns-5 c = λ n. inl (right-bad _ _ _ (sym (c .before .before .before .next-item .ensures .0)
-    ∙ c .before .f .given .1) n)
+returns-5 c =
+    let e = sym (c .before .before .before .next-item .ensures .0) ∙ c .before .f .given .1 in
+    (λ n. inl (right-bad _ _ _ e n), answer-bad _ _ _ _ _ e)
 
 same-length : tie.Need-same-length
 same-length c = search needs
@@ -114,16 +122,20 @@ returns-6 c =
     let i = c .before .before .before .before .before .before .before .before in
     let k = c .before .before .before .before .before .before in
     let g = k .b .given .0 in
-    let h = rw (k .b .given .1) at (i .next-item .ensures .1) in (
-      replicate (g .1 .0) (g .0),
-      record {
-        goes = line-repeat _ _ _ _ _ (sym (i .next-item .ensures .0) ∙ k .b .given .1);
-        right = right-repeat _ _ _ _ _ (sym (i .next-item .ensures .0) ∙ k .b .given .1);
-        count = rw length-replicate;
-        written = c .before .before .put-repeat .ensures;
-        inText = h;
-        inRoom = omega arith;
-      },
+    let h = rw (k .b .given .1) at (i .next-item .ensures .1) in
+    let e = sym (i .next-item .ensures .0) ∙ k .b .given .1 in (
+      (
+        replicate (g .1 .0) (g .0),
+        record {
+          goes = line-repeat _ _ _ _ _ e;
+          right = right-repeat _ _ _ _ _ e;
+          count = rw length-replicate;
+          written = c .before .before .put-repeat .ensures;
+          inText = h;
+          inRoom = omega arith;
+        },
+      ),
+      answer-repeat _ _ _ _ _ _ _ e (omega arith),
     )
 
 same-length-2 : tie.Need-same-length-2
@@ -134,16 +146,20 @@ returns-7 c =
     let i = c .before .before .before .before .before .before .before .before in
     let k = c .before .before .before .before .before .before in
     let g = k .v .given .0 in
-    let h = rw (k .v .given .1) at (i .next-item .ensures .1) in (
-      digits 4 (g .0),
-      record {
-        goes = line-number _ _ _ _ (sym (i .next-item .ensures .0) ∙ k .v .given .1);
-        right = right-number _ _ _ _ (sym (i .next-item .ensures .0) ∙ k .v .given .1);
-        count = rw length-digits;
-        written = c .before .before .put-u32 .ensures;
-        inText = h;
-        inRoom = omega arith;
-      },
+    let h = rw (k .v .given .1) at (i .next-item .ensures .1) in
+    let e = sym (i .next-item .ensures .0) ∙ k .v .given .1 in (
+      (
+        digits 4 (g .0),
+        record {
+          goes = line-number _ _ _ _ e;
+          right = right-number _ _ _ _ e;
+          count = rw length-digits;
+          written = c .before .before .put-u32 .ensures;
+          inText = h;
+          inRoom = omega arith;
+        },
+      ),
+      answer-number _ _ _ _ _ _ e (omega arith),
     )
 
 same-length-3 : tie.Need-same-length-3
@@ -155,16 +171,20 @@ returns-8 c =
     let k = c .before .before .before .before .before .before .before in
     let s = i .before .before .before .args .s .now in
     let g = k .a .given .0 in
-    let h = text-inside k in (
-      take (g .1 .0 - g .0) (drop (g .0) s),
-      record {
-        goes = line-text _ _ _ _ _ (sym (i .next-item .ensures .0) ∙ k .a .given .1);
-        right = right-text _ _ _ _ _ (sym (i .next-item .ensures .0) ∙ k .a .given .1);
-        count = rw (text-length s (g .0) (g .1 .0) (h .1));
-        written = c .before .before .copy-part .ensures;
-        inText = h .2;
-        inRoom = omega arith;
-      },
+    let h = text-inside k in
+    let e = sym (i .next-item .ensures .0) ∙ k .a .given .1 in (
+      (
+        take (g .1 .0 - g .0) (drop (g .0) s),
+        record {
+          goes = line-text _ _ _ _ _ e;
+          right = right-text _ _ _ _ _ e;
+          count = rw (text-length s (g .0) (g .1 .0) (h .1));
+          written = c .before .before .copy-part .ensures;
+          inText = h .2;
+          inRoom = omega arith;
+        },
+      ),
+      answer-text _ _ _ _ _ _ _ e (omega arith),
     )
 
 pub put-item-spec : {M : Type 1} → statement M
@@ -178,7 +198,7 @@ put-item-spec =
     sub-if1
     returns
     put-repeat-requires
-    add-t16
+    add-t17
     enum-known-v
     sub-if2
     returns-2
@@ -192,8 +212,8 @@ put-item-spec =
     part-copy-part-start
     part-copy-part-end
     copy-part-requires
-    sub-t31
-    add-t30
+    sub-t30
+    add-t29
     returns-4
     returns-5
     same-length

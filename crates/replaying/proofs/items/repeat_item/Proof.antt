@@ -6,24 +6,24 @@ use Rattle.replaying.proofs.items.repeat_item.Tie as tie
 enum-told : tie.Need-enum-told
 enum-told c = search needs
 
-enum-told-2 : tie.Need-enum-told-2
-enum-told-2 c = search needs
-
 enum-known-d : tie.Need-enum-known-d
 enum-known-d c = search needs
 
-cast-t8 : tie.Need-cast-t8
-cast-t8 c = search needs
+enum-known-d-2 : tie.Need-enum-known-d-2
+enum-known-d-2 c = search needs
+
+cast-t9 : tie.Need-cast-t9
+cast-t9 c = search needs
 
 returns : tie.Need-returns
 returns c = rw (c .enum-told .given .1)
 
 returns-2 : tie.Need-returns-2
-returns-2 c = rw (c .enum-told2 .given .1)
+returns-2 c = rw (c .before .d .given .1)
 
 returns-3 : tie.Need-returns-3
-returns-3 c = rw (c .before .d .given .1)
+returns-3 c = rw (c .before .d2 .given .1)
 
 pub repeat-item-spec : {M : Type 1} → statement M
 repeat-item-spec =
-    tie.close (tie.spec enum-told enum-told-2 enum-known-d cast-t8 returns returns-2 returns-3)
+    tie.close (tie.spec enum-told enum-known-d enum-known-d-2 cast-t9 returns returns-2 returns-3)

@@ -2,14 +2,14 @@
 use Prim.Native.Nat.{_≤_, _-_}
 use lib.ListN.{length}
 use native.Mathlib.Omega.{arith}
-use Rattle.replay.proofs.showing.ascii.Statement.{statement}
-use Rattle.replay.proofs.showing.ascii.Tie as tie
+use Rattle.replay.proofs.printing.ascii.Statement.{statement}
+use Rattle.replay.proofs.printing.ascii.Tie as tie
 
 abbrev Inv-loop : tie.InvT-loop
-Inv-loop s i₀ i = i ≤ length s
+Inv-loop out s i₀ i = i ≤ length s
 
 abbrev μ-loop : tie.MeasureT-loop
-μ-loop s i₀ i = length s - i
+μ-loop out s i₀ i = length s - i
 
 loop-holds : tie.Need-loop-holds Inv-loop μ-loop
 loop-holds c = omega arith
@@ -20,11 +20,11 @@ shared-slice-read-printable c = omega arith
 printable-requires : tie.Need-printable-requires Inv-loop μ-loop
 printable-requires c κs = tt
 
-slice-aggregate-write : tie.Need-slice-aggregate-write Inv-loop μ-loop
-slice-aggregate-write c = omega arith
+slice-aggregate-text : tie.Need-slice-aggregate-text Inv-loop μ-loop
+slice-aggregate-text c = omega arith
 
-write-requires : tie.Need-write-requires Inv-loop μ-loop
-write-requires c κs = tt
+text-requires : tie.Need-text-requires Inv-loop μ-loop
+text-requires c κs = tt
 
 add-i : tie.Need-add-i Inv-loop μ-loop
 add-i c = omega arith
@@ -47,8 +47,8 @@ ascii-spec =
     loop-holds
     shared-slice-read-printable
     printable-requires
-    slice-aggregate-write
-    write-requires
+    slice-aggregate-text
+    text-requires
     add-i
     loop-less
     loop-again
