@@ -14,7 +14,7 @@ fn at_end(file: i32) -> bool {
 }
 
 // A file that fills the buffer may be longer, so it is refused.
-fn run_open(name: &[u8], file: i32, requests: u64) -> Ran {
+fn run_open(name: &[u8], file: i32) -> Ran {
     let mut text = io::large_buffer();
     let n = io::read_full(file, &mut text);
     if n == text.len() {
@@ -25,38 +25,39 @@ fn run_open(name: &[u8], file: i32, requests: u64) -> Ran {
         reporting::stop_at_file(name, b"the file cannot be read");
         return Ran::Stopped;
     }
-    running::run_text(name, &text[..n], requests)
+    running::run_text(name, &text[..n])
 }
 
-fn run_named(name: &[u8], requests: u64) -> Ran {
+fn run_named(name: &[u8]) -> Ran {
     let file = os::open_read(name);
     if file < 0 {
         reporting::stop_at_file(name, b"the file cannot be opened");
         return Ran::Stopped;
     }
     showing::file(name);
-    let ran = run_open(name, file, requests);
+    let ran = run_open(name, file);
     libc::close(file);
     ran
 }
 
-fn run_argument(i: usize, requests: u64) -> Ran {
+fn run_argument(i: usize) -> Ran {
     let mut name = io::buffer();
     let n = os::arg(i, &mut name);
     if n == 0 {
         reporting::stop_at_argument(i as u64);
         return Ran::Stopped;
     }
-    run_named(&name[..n], requests)
+    run_named(&name[..n])
 }
 
+// The count of requests wraps at 2^64, which no run reaches.
 fn run_arguments(n: usize) {
     let mut requests = 0;
     let mut i = 1;
     while i < n {
-        match run_argument(i, requests) {
-            Ran::Done(so_far) => {
-                requests = so_far;
+        match run_argument(i) {
+            Ran::Done(more) => {
+                requests = std::num::wrapping_add_u64(requests, more);
             }
             Ran::Stopped => {
                 return;

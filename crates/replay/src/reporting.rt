@@ -20,23 +20,23 @@ pub(crate) enum Why {
     Answer(u32, u32),
 }
 
-fn bound(out: i32, before: &[u8], n: u64) {
+fn numbered(out: i32, before: &[u8], n: u64) {
     text(out, before);
     number(out, n);
 }
 
 fn layout(out: i32, f: Fault) {
     match f {
-        Fault::Return => text(out, b"a carriage return: lines end with a line feed alone"),
+        Fault::CarriageReturn => text(out, b"a carriage return: lines end with a line feed alone"),
         Fault::Word => text(out, b"the line begins with no word that is known"),
         Fault::NoNumber => text(out, b"a decimal number is missing"),
-        Fault::Above(most) => bound(out, b"the number is above ", most as u64),
-        Fault::Below(most) => bound(out, b"the number is below -", most as u64),
+        Fault::Above(most) => numbered(out, b"the number is above ", most as u64),
+        Fault::Below(most) => numbered(out, b"the number is below -", most as u64),
         Fault::Item => text(out, b"bytes are pairs of hex digits, =NUMBER or 'text'"),
         Fault::Quote => text(out, b"the text has no closing quote"),
-        Fault::Room(room) => bound(
+        Fault::Room(room) => numbered(
             out,
-            b"these are too many bytes; the room in all is ",
+            b"these are too many bytes: there is room for ",
             room as u64,
         ),
         Fault::More => text(out, b"there is more on the line than belongs there"),
@@ -44,10 +44,8 @@ fn layout(out: i32, f: Fault) {
 }
 
 fn answer(out: i32, expected: u32, came: u32) {
-    text(out, b"expected ");
-    number(out, expected as u64);
-    text(out, b", but the last answer was ");
-    number(out, came as u64);
+    numbered(out, b"expected ", expected as u64);
+    numbered(out, b", but the last answer was ", came as u64);
 }
 
 fn reason(out: i32, why: Why) {
@@ -66,8 +64,7 @@ fn reason(out: i32, why: Why) {
 
 fn line_message(out: i32, name: &[u8], line: u64, why: Why) {
     ascii(out, name);
-    text(out, b", line ");
-    number(out, line);
+    numbered(out, b", line ", line);
     text(out, b": ");
     reason(out, why);
     text(out, b"\n");
@@ -81,8 +78,7 @@ fn file_message(out: i32, name: &[u8], reason: &[u8]) {
 }
 
 fn argument_message(out: i32, i: u64) {
-    text(out, b"argument ");
-    number(out, i);
+    numbered(out, b"argument ", i);
     text(
         out,
         b": the file's name is empty or longer than 4,096 bytes\n",

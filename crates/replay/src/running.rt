@@ -23,8 +23,8 @@ const BUFFER_SIZE: usize = LIMIT + 4;
 const REPLY_SIZE: usize = 8192;
 
 // What lines before this one have set: the lengths of the container, the request, the node id and the enabler, which
-// stand at the front of their buffers; whether this container has answered, and its last answer; the requests of all
-// files so far. A length never exceeds its buffer; `clip` spares the proof of it.
+// stand at the front of their buffers; whether this container has answered, and its last answer; the requests of
+// the file so far. A length never exceeds its buffer; `clip` spares the proof of it.
 struct State {
     open: bool,
     length: usize,
@@ -41,13 +41,13 @@ enum Step {
     Stop(Why),
 }
 
-// The requests so far, or that the run has stopped with its message.
+// How many requests a file had, or that the run has stopped with its message.
 pub(crate) enum Ran {
     Done(u64),
     Stopped,
 }
 
-// After an answer. The count wraps at 2^64, which no run reaches.
+// After an answer. A file has far fewer requests than 2^64, where the count wraps.
 fn with_answer(st: State, number: u32) -> State {
     let mut next = st;
     next.answered = true;
@@ -263,7 +263,6 @@ fn finish(name: &[u8], line: u64, st: State, c: &[u8]) -> Ran {
 fn run_lines(
     name: &[u8],
     t: &[u8],
-    requests: u64,
     c: &mut [u8],
     q: &mut [u8],
     node_id: &mut [u8],
@@ -277,7 +276,7 @@ fn run_lines(
         enabler: 0,
         answered: false,
         last: 0,
-        requests,
+        requests: 0,
     };
     let mut line: u64 = 0;
     let mut at = 0;
@@ -298,10 +297,10 @@ fn run_lines(
     finish(name, line, st, c)
 }
 
-pub(crate) fn run_text(name: &[u8], t: &[u8], requests: u64) -> Ran {
+pub(crate) fn run_text(name: &[u8], t: &[u8]) -> Ran {
     let mut c = [0u8; BUFFER_SIZE];
     let mut q = [0u8; BUFFER_SIZE];
     let mut node_id = [0u8; 64];
     let mut secret = [0u8; 64];
-    run_lines(name, t, requests, &mut c, &mut q, &mut node_id, &mut secret)
+    run_lines(name, t, &mut c, &mut q, &mut node_id, &mut secret)
 }

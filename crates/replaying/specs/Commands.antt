@@ -11,7 +11,7 @@ use Rattle.replaying.specs.Items.{itemAt}
 use Rattle.replaying.specs.declared.scanning.Sort.the-variants.{But, Only}
 use Rattle.replaying.specs.declared.numerals.Decimal.{Decimal}
 use Rattle.replaying.specs.declared.numerals.Decimal.the-variants.{Missing, TooLarge, Value}
-use Rattle.replaying.specs.declared.items.Fault.the-variants.{Return, NoNumber, Above, More}
+use Rattle.replaying.specs.declared.items.Fault.the-variants.{CarriageReturn, NoNumber, Above, More}
 use Rattle.replaying.specs.declared.items.Item.{Item}
 use Rattle.replaying.specs.declared.items.Item.the-variants.{End, Repeat, Text}
 use Rattle.replaying.specs.declared.items.Item.the-variants.{Number as FourBytes}
@@ -50,7 +50,7 @@ commandFrom s p = cond (ltb p (length s)) (commandHere s p) Nothing
 
 -- The command of a line, behind spaces; a carriage return stands nowhere in the line.
 unfoldable pub commandOf : List ℕ → Command
-commandOf s = cond (ltb (0 + run (But 13) (drop 0 s)) (length s)) (NoCommand Return)
+commandOf s = cond (ltb (0 + run (But 13) (drop 0 s)) (length s)) (NoCommand CarriageReturn)
     (commandFrom s (0 + run (Only 32) (drop 0 s)))
 
 -- The position behind a word is at most n.

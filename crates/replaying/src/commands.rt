@@ -94,7 +94,7 @@ pub fn command_of(s: &[u8]) -> Command
     ensures { λ r. ⌜ (r ≡ commandOf (now (s .entry))) × followed (length (now (s .entry))) r ⌝ }
 {
     if scanning::run_end(s, 0, Sort::But(13)) < s.len() {
-        return Command::Bad(Fault::Return);
+        return Command::Bad(Fault::CarriageReturn);
     }
     let p = scanning::run_end(s, 0, Sort::Only(32));
     if p < s.len() {

@@ -17,7 +17,7 @@ const MOST_REPEATS: u32 = 65540;
 
 // Why a line is refused.
 pub enum Fault {
-    Return,
+    CarriageReturn,
     Word,
     NoNumber,
     // The number is above this bound.

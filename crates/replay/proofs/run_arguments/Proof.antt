@@ -17,8 +17,11 @@ loop-holds c = omega arith
 run-argument-requires : tie.Need-run-argument-requires Inv-loop μ-loop
 run-argument-requires c κs = tt
 
-enum-known-so-far : tie.Need-enum-known-so-far Inv-loop μ-loop
-enum-known-so-far c = search needs
+enum-known-more : tie.Need-enum-known-more Inv-loop μ-loop
+enum-known-more c = search needs
+
+wrapping-add-u64-requires : tie.Need-wrapping-add-u64-requires Inv-loop μ-loop
+wrapping-add-u64-requires c κs = tt
 
 enum-told : tie.Need-enum-told Inv-loop μ-loop
 enum-told c = search needs
@@ -52,7 +55,8 @@ run-arguments-spec =
     μ-loop
     loop-holds
     run-argument-requires
-    enum-known-so-far
+    enum-known-more
+    wrapping-add-u64-requires
     enum-told
     returns
     add-i

@@ -8,7 +8,7 @@ use Rattle.replay.proofs.running.run_lines.Statement.{statement}
 use Rattle.replay.proofs.running.run_lines.Tie as tie
 
 abbrev Inv-loop : tie.InvT-loop
-Inv-loop name t requests c₀ q₀ node-id₀ secret₀ st₀ line₀ at₀ c q node-id secret st line at =
+Inv-loop name t c₀ q₀ node-id₀ secret₀ st₀ line₀ at₀ c q node-id secret st line at =
     (line ≤ at)
     × (at ≤ length t + 1)
     × (length c ≡ length c₀)
@@ -17,7 +17,7 @@ Inv-loop name t requests c₀ q₀ node-id₀ secret₀ st₀ line₀ at₀ c q 
     × (length secret ≡ length secret₀)
 
 abbrev μ-loop : tie.MeasureT-loop
-μ-loop name t requests c₀ q₀ node-id₀ secret₀ st₀ line₀ at₀ c q node-id secret st line at = length t + 1 - at
+μ-loop name t c₀ q₀ node-id₀ secret₀ st₀ line₀ at₀ c q node-id secret st line at = length t + 1 - at
 
 loop-holds : tie.Need-loop-holds Inv-loop μ-loop
 loop-holds c = (omega arith, omega arith, omega arith, omega arith, omega arith, omega arith)

@@ -43,4 +43,6 @@ returns-3 c = (
 )
 
 pub command-of-spec : {M : Type 1} → statement M
-command-of-spec = tie.close (tie.spec run-end-requires returns run-end-requires-2 command-here-requires returns-2 returns-3)
+command-of-spec =
+    tie.close
+    (tie.spec run-end-requires returns run-end-requires-2 command-here-requires returns-2 returns-3)
