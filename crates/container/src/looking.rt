@@ -6,17 +6,30 @@ ghost use Rattle.container.specs.Looking.{readOf};
 use format::judging::Judged;
 use format::layout::Frame;
 use reading::read;
+use requests::cursors::Cursor;
 use requests::forms::Form;
+use requests::forms::REQUEST_LIMIT;
+use requests::forms::read_form;
 use rules::Answer;
 use rules::answers::answer;
 
-// By the form of the request.
+// Of the five kinds only a read is taken apart.
 fn read_formed(c: &[u8], frame: Frame, q: &[u8], r: &mut [u8]) -> Answer
     requires { ⌜ Known (now c) frame ⌝ }
     ensures { λ x. ⌜ x ≡ answered (now (c .entry)) (readOf (now (q .entry))) (now (r .entry)) ⌝ }
     ensures { λ _. ⌜ now (r .exit) ≡ replyAfter (now (c .entry)) (readOf (now (q .entry))) (now (r .entry)) ⌝ }
 {
-    match requests::forms::form_of(q) {
+    if q.len() == 0 {
+        return answer(3, 0);
+    }
+    if REQUEST_LIMIT < q.len() {
+        return answer(3, 0);
+    }
+    let kind = Cursor::start().byte(q);
+    if kind.value != 5 {
+        return answer(3, 0);
+    }
+    match read_form(q, kind.next) {
         Form::Read(t) => read(c, frame, q, t, r),
         _ => answer(3, 0),
     }

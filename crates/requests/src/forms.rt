@@ -16,7 +16,7 @@ use format::layout::RECORD_SIZE;
 use format::layout::SECRET_SIZE;
 
 // The longest request, and the longest table.
-const REQUEST_LIMIT: usize = 65536;
+pub const REQUEST_LIMIT: usize = 65536;
 
 const ENTRY_LIMIT: usize = 16;
 
@@ -206,7 +206,7 @@ fn test_write_form(q: &[u8], at: Cursor) -> Form
 }
 
 // Kind 5, after its kind.
-fn read_form(q: &[u8], at: Cursor) -> Form
+pub fn read_form(q: &[u8], at: Cursor) -> Form
     requires { ⌜ at .at ≡ 1 ⌝ }
     ensures { λ r. ⌜ Takes (now (q .entry)) (byKind 5 (now (q .entry))) r ⌝ }
 {
