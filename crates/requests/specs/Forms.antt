@@ -26,7 +26,7 @@ use Rattle.requests.specs.declared.forms.Form.{Form}
 use Rattle.requests.specs.declared.forms.Form.the-variants.{Broken, TestWrite, Add, Renew, Cancel}
 use Rattle.requests.specs.declared.forms.Form.the-variants.{Read as ReadForm}
 
--- ---- what each form stands for
+-- ---- what each form stands for (docs/RULES.md, Q3)
 -- The outcome's number for each case: 3 for a request that breaks its format, 0 for every other.
 abbrev pub formNumber : Form → ℕ
 formNumber Broken = 3

@@ -138,7 +138,8 @@ pub record SameReply (b c q r : List ℕ) : Type 0 where
   pub answer : answered b q r ≡ answered c q r
   pub reply : replyAfter b q r ≡ replyAfter c q r
 
--- Secrets stay in: neither answer nor reply tells the write enabler or the leases (D5).
+-- Secrets stay in: neither answer nor reply tells the write enabler or the leases, beyond whether an enabler fits and
+-- whether there is room (D5).
 pub record Secrets (b c q r : List ℕ) : Type 0 where
   -- a read gets the same answer and reply bytes in both containers
   pub of-read : SamePublic b c → kindOf q ≡ 5 → SameReply b c q r

@@ -100,17 +100,19 @@ answerOf n node count = record { number = n; node = node; count = count }
 abbrev pub noNode : List ℕ
 noNode = replicate nodeSize 0
 
--- The answer to a request with outcome n: the container's node id on 5, the count where a reply is written (O24).
+-- The answer to a request with outcome n: the container's node id on 5, the count on 0 and 8 (O23 to O25).
 unfoldable pub answerTo : ℕ → Parts → Option Request → Answer
 answerTo n p none = answerOf n noNode 0
 answerTo n p (some r) = answerOf n (cond (eqb n 5) (p .node) noNode) (cond (replies n) (counted p r) 0)
 
+-- The parts and the reply of what may be no request: unchanged, and empty.
 unfoldable pub afterOf : Parts → Option Request → Parts
 afterOf p r = maybe p (after p) r
 
 unfoldable pub replyBytes : Parts → Option Request → List ℕ
 replyBytes p r = maybe [] (replyTo p) r
 
+-- The answer record (O23).
 unfoldable pub answered : List ℕ → List ℕ → List ℕ → Answer
 answered c q r = answerTo (outcome c q (length r)) (partsOf c) (requestOf q)
 
@@ -118,6 +120,7 @@ answered c q r = answerTo (outcome c q (length r)) (partsOf c) (requestOf q)
 unfoldable pub containerAfter : List ℕ → List ℕ → List ℕ → List ℕ
 containerAfter c q r = cond (eqb (outcome c q (length r)) 0) (encode (afterOf (partsOf c) (requestOf q))) c
 
+-- The reply is written on 0 and 8 only, to the front of the reply space (O26, R5).
 unfoldable pub replyAfter : List ℕ → List ℕ → List ℕ → List ℕ
 replyAfter c q r = cond (replies (outcome c q (length r))) (put 0 (replyBytes (partsOf c) (requestOf q)) r) r
 

@@ -138,6 +138,7 @@ testWriteEnd q = newDataAt q + sumFrom (λ p. entryCount p q) entrySize (writeCo
 unfoldable pub cutOk : ℕ → ℕ → Bool
 cutOk flag new = leb flag 1 && cond (eqb flag 0) (eqb new 0) true
 
+-- The format holds (X4 to X10).
 unfoldable pub testWriteOk : List ℕ → Bool
 testWriteOk q =
     leb (testCount q) entryLimit && (leb (writeCount q) entryLimit && (cutOk (cutFlag q) (newLength q)
@@ -146,6 +147,7 @@ testWriteOk q =
 unfoldable pub cutOf : ℕ → ℕ → Option ℕ
 cutOf flag new = cond (eqb flag 0) none (some new)
 
+-- What it asks (Q9 to Q13).
 unfoldable pub testWriteOf : List ℕ → Request
 testWriteOf q =
     testWrite (take secretSize (drop secretAt q)) (testsFrom (testCount q) testsAt (specimensAt q) q)
