@@ -1,0 +1,218 @@
+//! The containers and requests of the benchmark.
+
+use beamsatchel_node::{
+    AddLease, CancelLease, CancelToken, Container, Lease, NodeId, Opcode, ReadData, RenewLease,
+    RenewalToken, TestAndWrite, WriteEnabler,
+};
+use std::hint::black_box;
+use std::num::NonZeroU32;
+
+const NODE: NodeId = NodeId([7; 20]);
+const ENABLER: WriteEnabler = WriteEnabler::new([0xEE; 32]);
+const LEASES: u8 = 6;
+/// Different requests of a workload, which come in turn.
+const REQUESTS: usize = 256;
+/// Enough for every reply.
+const REPLY_SPACE: usize = 8192;
+
+/// A slot with six leases.
+pub struct Slot {
+    length: usize,
+    size: usize,
+}
+
+impl Slot {
+    /// A slot in a buffer of `length` bytes with `size` bytes of data.
+    pub fn new(length: usize, size: usize) -> Slot {
+        Slot { length, size }
+    }
+
+    /// A slot whose data is the share.
+    pub fn with_share(length: usize) -> Vec<u8> {
+        let share = share();
+        let mut container = Slot::new(length, share.len()).container();
+        container[468..468 + share.len()].copy_from_slice(&share);
+        container
+    }
+
+    fn container(&self) -> Vec<u8> {
+        let mut bytes = vec![0; self.length];
+        let mut slot = Container::create(&mut bytes[..], NODE, ENABLER).expect("a good length");
+        let request = TestAndWrite::new(ENABLER).write(0, &vec![b'A'; self.size]);
+        let done = slot.test_and_write(&request.expect("fits"), &mut []);
+        assert!(done.expect("room").is_done());
+        for number in 0..LEASES {
+            slot.add_lease(lease(number)).expect("room");
+        }
+        bytes
+    }
+
+    /// Writes at random offsets inside the data, each with a test of the first 41 bytes, as a
+    /// Tahoe client's checkstring is.
+    pub fn writes(&self, count: usize) -> Vec<Vec<u8>> {
+        let body = vec![b'B'; count];
+        self.at_random(count, |offset| {
+            checked().write(offset, &body).expect("fits").to_bytes()
+        })
+    }
+
+    /// Writes 4 KiB that begin before and end after the data's end, and cuts that undo them.
+    pub fn growth(&self, past: usize) -> Vec<Vec<u8>> {
+        let offset = (self.size + past - 4096) as i32;
+        let grow = checked().write(offset, &[b'C'; 4096]).expect("fits");
+        let cut = checked().cut(self.size as u32);
+        vec![grow.to_bytes(), cut.to_bytes()]
+    }
+
+    /// Reads at random offsets inside the data.
+    pub fn reads(&self, count: usize) -> Vec<Vec<u8>> {
+        self.at_random(count, |offset| {
+            let read = ReadData::new().read(offset, count as u32);
+            read.expect("fits").to_bytes()
+        })
+    }
+
+    /// Renewals of the last lease. Their expiries rise, so that after the first round none is later.
+    pub fn renewals(&self) -> Vec<Vec<u8>> {
+        (0..REQUESTS as u32)
+            .map(|expiry| RenewLease {
+                token: lease(LEASES - 1).renewal,
+                expiry,
+            })
+            .map(|renew| renew.to_bytes().to_vec())
+            .collect()
+    }
+
+    /// A seventh lease comes and goes.
+    pub fn lease_lives(&self) -> Vec<Vec<u8>> {
+        let add = AddLease(lease(LEASES)).to_bytes().to_vec();
+        let cancel = CancelLease(lease(LEASES).cancel).to_bytes().to_vec();
+        vec![add, cancel]
+    }
+
+    /// Tests that are false at the last byte only.
+    pub fn false_tests(&self, count: usize) -> Vec<Vec<u8>> {
+        let mut specimen = vec![b'A'; count];
+        specimen[count - 1] = b'B';
+        self.at_random(count, |offset| {
+            let test =
+                TestAndWrite::new(ENABLER).test(offset, count as u32, Opcode::Equal, &specimen);
+            test.expect("fits").to_bytes()
+        })
+    }
+
+    fn at_random(&self, count: usize, request: impl Fn(i32) -> Vec<u8>) -> Vec<Vec<u8>> {
+        let mut state: u64 = 0xBEA5_A7C4;
+        (0..REQUESTS)
+            .map(|_| {
+                // The upper bits of a linear congruential generator.
+                state = state
+                    .wrapping_mul(6_364_136_223_846_793_005)
+                    .wrapping_add(1);
+                let offset = (state >> 33) as usize % (self.size - count + 1);
+                request(offset as i32)
+            })
+            .collect()
+    }
+}
+
+/// A test-and-write whose one test holds.
+fn checked() -> TestAndWrite {
+    TestAndWrite::new(ENABLER)
+        .test(0, 41, Opcode::GreaterOrEqual, b"")
+        .expect("fits")
+}
+
+fn lease(number: u8) -> Lease {
+    Lease {
+        owner: NonZeroU32::MIN,
+        expiry: 0,
+        renewal: RenewalToken::new([number + 1; 32]),
+        cancel: CancelToken::new([number + 101; 32]),
+        node: NODE,
+    }
+}
+
+/// The rows of the benchmark: a name, the slot, and the requests that come in turn.
+pub fn rows() -> Vec<(String, Slot, Vec<Vec<u8>>)> {
+    let long = || Slot::new(60 * 1024, 56 * 1024);
+    let slot = long();
+    let mut rows: Vec<_> = [
+        ("write 4 KiB at random offsets", slot.writes(4096)),
+        ("write 4 KiB past the end, or cut it", slot.growth(2048)),
+        ("read 4 KiB at random offsets", slot.reads(4096)),
+        ("renew the last of six leases", slot.renewals()),
+        ("add a lease, or cancel it", slot.lease_lives()),
+        ("a false test of 4 KiB", slot.false_tests(4096)),
+    ]
+    .map(|(name, requests)| (name.to_string(), long(), requests))
+    .into();
+    for kibibytes in [2, 8, 32, 64] {
+        let length = kibibytes * 1024;
+        // Half of the room is data.
+        let slot = || Slot::new(length, (length - 472 - 2 * 92) / 2);
+        let timed = slot();
+        for (name, requests) in [
+            ("write 512 bytes", timed.writes(512)),
+            ("read 512 bytes", timed.reads(512)),
+            ("renew a lease", timed.renewals()),
+        ] {
+            rows.push((format!("{name}, {kibibytes} KiB"), slot(), requests));
+        }
+    }
+    rows
+}
+
+/// The share of 2,043 bytes, of Numbers at the edges in docs/RULES.md.
+pub fn share() -> Vec<u8> {
+    let mut share = vec![0; 2043];
+    share[8] = 1;
+    share[57..59].copy_from_slice(&[3, 10]);
+    share[66] = 12;
+    share[74] = 10;
+    for (field, offset) in [
+        (77, 399_u16),
+        (81, 655),
+        (85, 791),
+        (89, 823),
+        (97, 827),
+        (105, 2043),
+    ] {
+        share[field..field + 2].copy_from_slice(&offset.to_be_bytes());
+    }
+    for (entry, node) in [2, 4, 8, 16].into_iter().enumerate() {
+        share[656 + 34 * entry] = node;
+    }
+    share
+}
+
+/// A side: container, request and reply space in, the outcome's number out.
+pub type Apply<'a> = dyn Fn(&mut [u8], &[u8], &mut [u8]) -> u32 + 'a;
+
+/// A container, and the requests that are applied to it in turn.
+pub struct Player<'a> {
+    pub container: Vec<u8>,
+    requests: &'a [Vec<u8>],
+    reply: Vec<u8>,
+    next: usize,
+}
+
+impl<'a> Player<'a> {
+    pub fn new(slot: &Slot, requests: &'a [Vec<u8>]) -> Player<'a> {
+        Player {
+            container: slot.container(),
+            requests,
+            reply: vec![0; REPLY_SPACE],
+            next: 0,
+        }
+    }
+
+    /// Applies the next request, which is done or has a false test. Nothing of `apply` is known
+    /// here, so neither side is compiled into its caller.
+    pub fn play(&mut self, apply: &Apply) {
+        let request = &self.requests[self.next];
+        self.next = (self.next + 1) % self.requests.len();
+        let number = black_box(apply)(&mut self.container, black_box(request), &mut self.reply);
+        assert!(matches!(number, 0 | 8), "outcome {number}");
+    }
+}

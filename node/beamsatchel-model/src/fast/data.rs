@@ -1,0 +1,218 @@
+//! Kinds 1 and 5.
+
+use super::frame::Frame;
+use crate::bytes::u32_at;
+use crate::Answer;
+use std::cmp::Ordering;
+
+const HEADER: usize = 40;
+const TEST: usize = 12;
+const WRITE: usize = 8;
+const READ: usize = 8;
+
+pub fn test_and_write(buffer: &mut [u8], frame: Frame, request: &[u8], reply: &mut [u8]) -> Answer {
+    let Some(parts) = Parts::find(request) else {
+        return Answer::refused(3);
+    };
+    if parts.negative {
+        return Answer::refused(4);
+    }
+    if request[8..40] != buffer[52..84] {
+        let mut node = [0; 20];
+        node.copy_from_slice(&buffer[32..52]);
+        return Answer::enabler_differs(node);
+    }
+    let data = frame.data(buffer);
+    let reply_length = reply_length(data, parts.tests, TEST);
+    if reply.len() < reply_length {
+        return Answer::refused(7);
+    }
+    if !parts.all_hold(data) {
+        write_reply(data, parts.tests, TEST, reply);
+        return Answer::test_false(reply_length);
+    }
+    let after = Frame {
+        size: match parts.final_size(frame.size) {
+            size if size > buffer.len() as u64 => return Answer::refused(11),
+            size => size as usize,
+        },
+        ..frame
+    };
+    if after.used() > buffer.len() {
+        return Answer::refused(11);
+    }
+    write_reply(data, parts.tests, TEST, reply);
+    if after.size > frame.size {
+        resize(buffer, frame, after);
+        parts.write(&mut buffer[468..468 + after.size]);
+    } else {
+        parts.write(&mut buffer[468..468 + after.size]);
+        resize(buffer, frame, after);
+    }
+    Answer::done(reply_length)
+}
+
+/// Moves count and extras to the new end of data, with zeros where they leave or uncover bytes.
+fn resize(buffer: &mut [u8], before: Frame, after: Frame) {
+    let (old_end, new_end) = (468 + before.size, 468 + after.size);
+    if old_end == new_end {
+        return;
+    }
+    buffer.copy_within(old_end..before.used(), new_end);
+    if new_end > old_end {
+        buffer[old_end..new_end].fill(0);
+    } else {
+        buffer[after.used()..before.used()].fill(0);
+    }
+    buffer[84..92].copy_from_slice(&(after.size as u64).to_be_bytes());
+    buffer[92..100].copy_from_slice(&(new_end as u64).to_be_bytes());
+}
+
+pub fn read(buffer: &[u8], frame: Frame, request: &[u8], reply: &mut [u8]) -> Answer {
+    let good = request.len() >= 4
+        && request[1] <= 16
+        && request[2..4] == [0, 0]
+        && request.len() == 4 + READ * usize::from(request[1]);
+    if !good {
+        return Answer::refused(3);
+    }
+    let reads = &request[4..];
+    if reads.chunks_exact(READ).any(is_negative) {
+        return Answer::refused(4);
+    }
+    let past_end =
+        |read: &[u8]| u64::from(u32_at(read, 0)) + u64::from(u32_at(read, 4)) > frame.size as u64;
+    if reads.chunks_exact(READ).any(past_end) {
+        return Answer::refused(6);
+    }
+    let data = frame.data(buffer);
+    let reply_length = reply_length(data, reads, READ);
+    if reply.len() < reply_length {
+        return Answer::refused(7);
+    }
+    write_reply(data, reads, READ, reply);
+    Answer::done(reply_length)
+}
+
+/// A kind 1 request with good format.
+struct Parts<'a> {
+    cut: Option<u32>,
+    tests: &'a [u8],
+    writes: &'a [u8],
+    specimens: &'a [u8],
+    data: &'a [u8],
+    /// Some offset is negative.
+    negative: bool,
+}
+
+impl<'a> Parts<'a> {
+    fn find(request: &'a [u8]) -> Option<Parts<'a>> {
+        if request.len() < HEADER || request[1] > 16 || request[2] > 16 {
+            return None;
+        }
+        let new_length = u32_at(request, 4);
+        let cut = match request[3] {
+            0 if new_length == 0 => None,
+            1 => Some(new_length),
+            _ => return None,
+        };
+        let (tests, rest) = request[HEADER..].split_at_checked(TEST * usize::from(request[1]))?;
+        let (writes, bodies) = rest.split_at_checked(WRITE * usize::from(request[2]))?;
+        let mut negative = false;
+        let mut specimen_length = 0;
+        for test in tests.chunks_exact(TEST) {
+            if !(1..=6).contains(&test[8]) || test[9] != 0 {
+                return None;
+            }
+            negative |= is_negative(test);
+            specimen_length += specimen_length_of(test);
+        }
+        let mut data_length = 0;
+        for write in writes.chunks_exact(WRITE) {
+            negative |= is_negative(write);
+            data_length += u64::from(u32_at(write, 4));
+        }
+        let (specimens, data) = bodies.split_at_checked(specimen_length)?;
+        (data.len() as u64 == data_length).then_some(Parts {
+            cut,
+            tests,
+            writes,
+            specimens,
+            data,
+            negative,
+        })
+    }
+
+    fn all_hold(&self, data: &[u8]) -> bool {
+        let mut specimens = self.specimens;
+        self.tests.chunks_exact(TEST).all(|test| {
+            let (specimen, rest) = specimens.split_at(specimen_length_of(test));
+            specimens = rest;
+            let comparison = piece(data, test).cmp(specimen);
+            match test[8] {
+                1 => comparison == Ordering::Less,
+                2 => comparison != Ordering::Greater,
+                3 => comparison == Ordering::Equal,
+                4 => comparison != Ordering::Equal,
+                5 => comparison != Ordering::Less,
+                _ => comparison == Ordering::Greater,
+            }
+        })
+    }
+
+    fn final_size(&self, size: usize) -> u64 {
+        let mut grown = size as u64;
+        for write in self.writes.chunks_exact(WRITE) {
+            let length = u64::from(u32_at(write, 4));
+            if length > 0 {
+                grown = grown.max(u64::from(u32_at(write, 0)) + length);
+            }
+        }
+        self.cut.map_or(grown, |cut| grown.min(u64::from(cut)))
+    }
+
+    /// Makes the writes as far as they lie below the final size.
+    fn write(&self, data: &mut [u8]) {
+        let mut bodies = self.data;
+        for write in self.writes.chunks_exact(WRITE) {
+            let (body, rest) = bodies.split_at(u32_at(write, 4) as usize);
+            bodies = rest;
+            if let Some(target) = data.get_mut(u32_at(write, 0) as usize..) {
+                let kept = target.len().min(body.len());
+                target[..kept].copy_from_slice(&body[..kept]);
+            }
+        }
+    }
+}
+
+/// Every entry of a table begins with its signed offset and its length.
+fn is_negative(entry: &[u8]) -> bool {
+    entry[0] & 0x80 != 0
+}
+
+fn specimen_length_of(test: &[u8]) -> usize {
+    usize::from(u16::from_be_bytes([test[10], test[11]]))
+}
+
+fn piece<'a>(data: &'a [u8], entry: &[u8]) -> &'a [u8] {
+    let rest = data.get(u32_at(entry, 0) as usize..).unwrap_or(&[]);
+    &rest[..rest.len().min(u32_at(entry, 4) as usize)]
+}
+
+fn reply_length(data: &[u8], table: &[u8], entry: usize) -> usize {
+    table
+        .chunks_exact(entry)
+        .map(|entry| 4 + piece(data, entry).len())
+        .sum()
+}
+
+fn write_reply(data: &[u8], table: &[u8], entry: usize, reply: &mut [u8]) {
+    let (lengths, mut pieces) = reply.split_at_mut(4 * (table.len() / entry));
+    for (length, entry) in lengths.chunks_exact_mut(4).zip(table.chunks_exact(entry)) {
+        let piece = piece(data, entry);
+        length.copy_from_slice(&(piece.len() as u32).to_be_bytes());
+        let (target, rest) = pieces.split_at_mut(piece.len());
+        target.copy_from_slice(piece);
+        pieces = rest;
+    }
+}

@@ -1,0 +1,71 @@
+use crate::bytes::{u32_at, u64_at};
+use crate::MAGIC;
+
+/// Where things lie in a well-formed container.
+#[derive(Clone, Copy)]
+pub struct Frame {
+    pub size: usize,
+    pub extras: usize,
+}
+
+impl Frame {
+    /// The frame of a container of an allowed length, where it is well formed.
+    pub fn find(buffer: &[u8]) -> Option<Frame> {
+        if buffer[..32] != MAGIC {
+            return None;
+        }
+        // With the size below the length no sum can wrap.
+        let size = u64_at(buffer, 84);
+        if size > (buffer.len() - 472) as u64 || u64_at(buffer, 92) != 468 + size {
+            return None;
+        }
+        let size = size as usize;
+        let extras = u32_at(buffer, 468 + size) as usize;
+        if extras > 60 {
+            return None;
+        }
+        let frame = Frame { size, extras };
+        let used = frame.used();
+        if used > buffer.len() {
+            return None;
+        }
+        for place in 0..frame.places() {
+            let record = &buffer[frame.record(place)..][..92];
+            if u32_at(record, 0) == 0 && !all_zero(record) {
+                return None;
+            }
+        }
+        if extras > 0 && u32_at(buffer, used - 92) == 0 {
+            return None;
+        }
+        all_zero(&buffer[used..]).then_some(frame)
+    }
+
+    pub fn used(&self) -> usize {
+        472 + self.size + 92 * self.extras
+    }
+
+    /// The number of places, the four and the extras.
+    pub fn places(&self) -> usize {
+        4 + self.extras
+    }
+
+    /// Where the record of a place begins.
+    pub fn record(&self, place: usize) -> usize {
+        match place {
+            0..4 => 100 + 92 * place,
+            _ => 472 + self.size + 92 * (place - 4),
+        }
+    }
+
+    pub fn data<'a>(&self, buffer: &'a [u8]) -> &'a [u8] {
+        &buffer[468..468 + self.size]
+    }
+}
+
+/// Whole lines without a branch inside, which the compiler turns into wide instructions.
+fn all_zero(bytes: &[u8]) -> bool {
+    let mut lines = bytes.chunks_exact(64);
+    lines.all(|line| line.iter().fold(0, |seen, byte| seen | byte) == 0)
+        && bytes[bytes.len() & !63..].iter().all(|byte| *byte == 0)
+}

@@ -1,0 +1,22 @@
+//! The rules of `docs/RULES.md` as a plain Rust program, to compare the proved library with.
+//!
+//! It is written from the rules alone, sentence by sentence, and shares nothing with the library nor with the crate
+//! that wraps it. It takes a container apart into its parts, makes new parts by the rules, and writes all bytes out
+//! again; it is simple where the library is quick. Comments name the section of the rules that a piece is written from.
+//! [`fast`] is a second writing of the same rules, for the benchmark.
+
+mod answer;
+mod apply;
+mod bytes;
+mod container;
+mod create;
+pub mod fast;
+mod request;
+mod share;
+
+pub use answer::Answer;
+pub use apply::apply;
+pub use container::{Container, Lease, LENGTHS, MAGIC};
+pub use create::create;
+pub use request::{Read, Request, Test, TestAndWrite, Write};
+pub use share::{check_container, check_share, Share};

@@ -1,0 +1,190 @@
+//! What a container file holds, in words.
+
+use beamsatchel_node::layout::share::{
+    BLOCK_TREE_OFFSET, HASH_CHAIN_OFFSET, K, SEGMENT_SIZE, SEQUENCE_NUMBER, SHARE_DATA_OFFSET,
+    SIGNATURE_OFFSET, VERIFICATION_KEY,
+};
+use beamsatchel_node::layout::{DATA, MAX_LENGTH};
+use beamsatchel_node::{Fault, Reason, Refusal, Share, View};
+use std::io::{self, Write};
+
+/// Bytes in a row of data.
+const ROW: usize = 16;
+
+/// What is left out unless it is asked for.
+#[derive(Clone, Copy, Default)]
+pub struct Shown {
+    pub secrets: bool,
+    pub data: bool,
+}
+
+impl Shown {
+    fn secret(self, bytes: &[u8; 32]) -> String {
+        match self.secrets {
+            true => hex(bytes),
+            false => "(not shown)".to_string(),
+        }
+    }
+}
+
+/// Writes what a container file holds, and tells whether it is well formed.
+pub fn dump(bytes: &[u8], shown: Shown, out: &mut impl Write) -> io::Result<bool> {
+    match View::open(bytes) {
+        Ok(view) => {
+            fields(&view, shown, out)?;
+            leases(&view, shown, out)?;
+            share(bytes, &view, out)?;
+            if shown.data {
+                data(view.data(), out)?;
+            }
+            Ok(true)
+        }
+        Err(refusal) => {
+            refused(bytes, refusal, out)?;
+            Ok(false)
+        }
+    }
+}
+
+fn refused(bytes: &[u8], refusal: Refusal, out: &mut impl Write) -> io::Result<()> {
+    writeln!(out, "  refused with outcome {refusal}")?;
+    if let Some(fault) = Fault::find(bytes) {
+        writeln!(out, "  {fault}")?;
+    }
+    // No more than one byte too many was read.
+    let length = match bytes.len() {
+        0..=MAX_LENGTH => bytes_in_words(bytes.len()),
+        _ => format!("more than {}", bytes_in_words(MAX_LENGTH)),
+    };
+    writeln!(out, "  buffer         {length}")
+}
+
+fn fields(view: &View<'_>, shown: Shown, out: &mut impl Write) -> io::Result<()> {
+    let length = bytes_in_words(view.buffer_len());
+    let used = view.used_len();
+    let enabler = shown.secret(view.write_enabler().expose());
+    writeln!(out, "  buffer         {length}, {used} in use")?;
+    writeln!(out, "  node id        {}", view.node_id())?;
+    writeln!(out, "  write enabler  {enabler}")?;
+    let size = bytes_in_words(view.data().len());
+    writeln!(out, "  data           {size} at byte {DATA}")
+}
+
+fn leases(view: &View<'_>, shown: Shown, out: &mut impl Write) -> io::Result<()> {
+    writeln!(
+        out,
+        "  leases         {} present, in 4 places and {} extra",
+        view.leases().count(),
+        view.extra_places()
+    )?;
+    for (place, lease) in view.leases() {
+        let renewal = shown.secret(lease.renewal.expose());
+        let cancel = shown.secret(lease.cancel.expose());
+        writeln!(
+            out,
+            "    place {place}: owner {}, expiry {}",
+            lease.owner, lease.expiry
+        )?;
+        writeln!(out, "      renewal token  {renewal}")?;
+        writeln!(out, "      cancel token   {cancel}")?;
+        writeln!(out, "      node id        {}", lease.node)?;
+    }
+    Ok(())
+}
+
+fn share(bytes: &[u8], view: &View<'_>, out: &mut impl Write) -> io::Result<()> {
+    let share = match Share::in_container(bytes) {
+        Ok(share) => share,
+        Err(refusal) => {
+            writeln!(out, "  share          none, outcome {refusal}")?;
+            let byte = DATA + fault_in_share(refusal.reason, view.data());
+            let at = match refusal.reason {
+                Reason::ShareOffsets => "among the six offsets from byte",
+                _ => "at byte",
+            };
+            return writeln!(out, "                 {at} {byte}");
+        }
+    };
+    writeln!(
+        out,
+        "  share          SDMF, sequence number {}, any {} of {} shares",
+        share.sequence_number(),
+        share.k(),
+        share.n()
+    )?;
+    let root_hash = hex(&share.root_hash());
+    writeln!(out, "    root hash              {root_hash}")?;
+    writeln!(out, "    IV                     {}", hex(&share.iv()))?;
+    writeln!(out, "    segment size           {}", share.segment_size())?;
+    writeln!(out, "    data length            {}", share.data_length())?;
+    let names = [
+        "verification key",
+        "signature",
+        "hash chain",
+        "block tree",
+        "share data",
+        "encrypted private key",
+    ];
+    let mut at = DATA + VERIFICATION_KEY;
+    for (name, part) in names.into_iter().zip(share.parts()) {
+        let length = bytes_in_words(part.len());
+        writeln!(out, "    {name:<22} {length} at byte {at}")?;
+        at += part.len();
+    }
+    Ok(())
+}
+
+/// The first byte of the field or part of a share that a refusal is about.
+fn fault_in_share(reason: Reason, data: &[u8]) -> usize {
+    // The part begins where its field in the header says; those of 26 to 28 lie inside the share.
+    let part = |field: usize| {
+        let offset = data[field..].first_chunk().expect("the header is whole");
+        u32::from_be_bytes(*offset) as usize
+    };
+    match reason {
+        Reason::ShareShort => data.len(),
+        Reason::ShareCoding => K,
+        Reason::ShareSegmentSize => SEGMENT_SIZE,
+        Reason::ShareOffsets => SIGNATURE_OFFSET,
+        Reason::ShareHashChain => part(HASH_CHAIN_OFFSET),
+        Reason::ShareBlockTree => part(BLOCK_TREE_OFFSET),
+        Reason::ShareData => part(SHARE_DATA_OFFSET),
+        Reason::ShareSequence => SEQUENCE_NUMBER,
+        _ => 0,
+    }
+}
+
+/// Sixteen bytes to a row behind the position of the first, with printable ASCII beside them.
+fn data(data: &[u8], out: &mut impl Write) -> io::Result<()> {
+    for (row, bytes) in data.chunks(ROW).enumerate() {
+        let pairs: Vec<String> = bytes.iter().map(|byte| format!("{byte:02x}")).collect();
+        let text: String = bytes.iter().map(|byte| printable(*byte)).collect();
+        let width = ROW * 3 - 1;
+        writeln!(
+            out,
+            "  {:>7}  {:<width$}  |{text}|",
+            row * ROW,
+            pairs.join(" ")
+        )?;
+    }
+    Ok(())
+}
+
+fn printable(byte: u8) -> char {
+    match byte {
+        b' ' => ' ',
+        _ if byte.is_ascii_graphic() => byte.into(),
+        _ => '.',
+    }
+}
+
+fn bytes_in_words(count: usize) -> String {
+    match count {
+        1 => "1 byte".to_string(),
+        _ => format!("{count} bytes"),
+    }
+}
+
+fn hex(bytes: &[u8]) -> String {
+    bytes.iter().map(|byte| format!("{byte:02x}")).collect()
+}

@@ -1,0 +1,67 @@
+//! The Beamsatchel slot container, for a Rust storage node.
+//!
+//! A [`Container`] is one Tahoe-LAFS mutable slot in a buffer that the node lends or hands over. The rules are those of
+//! `docs/RULES.md`, and the work is done by the proved library behind five C-callable functions; this crate gives them
+//! types. Whatever bytes arrive as container, request or reply space, every call ends in one of the numbered outcomes
+//! (done, or a [`Reason`]), and a refused request changes no byte of the container.
+//!
+//! ```
+//! use beamsatchel_node::{Container, NodeId, Opcode, ReadData, TestAndWrite, WriteEnabler};
+//!
+//! # fn main() -> Result<(), beamsatchel_node::Error> {
+//! let mut buffer = vec![0; 4096];
+//! let enabler = WriteEnabler::new([0xEE; 32]);
+//! let mut slot = Container::create(&mut buffer[..], NodeId([7; 20]), enabler)?;
+//!
+//! // Writes "AB" at 3, provided that the slot is still empty.
+//! let request = TestAndWrite::new(enabler)
+//!     .test(0, 1, Opcode::Equal, b"")?
+//!     .write(3, b"AB")?;
+//! let mut space = vec![0; request.reply_bound()];
+//! assert!(slot.test_and_write(&request, &mut space)?.is_done());
+//!
+//! // What was never written is zero. Reading needs the buffer for reading only.
+//! let slot = Container::open(&buffer[..])?;
+//! let request = ReadData::new().read(0, 5)?;
+//! let mut space = vec![0; request.reply_bound()];
+//! let reply = slot.read(&request, &mut space)?;
+//! assert_eq!(reply.pieces().next(), Some(&b"\0\0\0AB"[..]));
+//! # Ok(())
+//! # }
+//! ```
+//!
+//! # Commands
+//!
+//! In `node/`:
+//!
+//! - `cargo test --release` compares the library with an independent model of the rules, a million cases;
+//!   `BEAMSATCHEL_CASES` sets more, `BEAMSATCHEL_SEED` others.
+//! - `cargo run --release --bin beamsatchel-dump -- FILE...` tells in words what container files hold, or why they are
+//!   refused and at which byte; `--help` has its options.
+//! - `cargo run --release --bin beamsatchel-bench` times the library against plain Rust, and with
+//!   `-- BEFORE.a AFTER.a` archives of the library against each other.
+//!
+//! # The archive
+//!
+//! The build links `target/staticlib/libbeamsatchel.a` of the repository. It runs `rt staticlib beamsatchel` to make it,
+//! at first and whenever a source has changed; cargo tells that by the files' times, as for sources in Rust. From
+//! nothing that takes minutes, in which cargo shows nothing. On a machine without the Rattle kit, `BEAMSATCHEL_ARCHIVE`
+//! names an archive that was made elsewhere; a relative path is relative to where cargo is started.
+
+#![warn(missing_docs)]
+
+mod answers;
+mod container;
+mod faults;
+pub mod ffi;
+pub mod layout;
+mod requests;
+mod secrets;
+mod shares;
+
+pub use answers::{Answer, Error, Reason, Refusal, Reply, Written};
+pub use container::{Container, Lease, NodeId, View};
+pub use faults::{Clause, Fault};
+pub use requests::{AddLease, BuildError, CancelLease, Opcode, ReadData, RenewLease, TestAndWrite};
+pub use secrets::{CancelToken, RenewalToken, WriteEnabler};
+pub use shares::Share;

@@ -1,0 +1,133 @@
+//! Bad input through each of the five functions of the C interface: empty slices and lengths at the edges of what is
+//! allowed, for every argument.
+
+use beamsatchel_model as model;
+use beamsatchel_node::ffi;
+
+const LENGTHS: [usize; 8] = [0, 1, 471, 472, 473, 65_535, 65_536, 65_537];
+const ENABLER: [u8; 32] = [0xEE; 32];
+
+/// Buffers of each length: zeros, ones, and a container's bytes as far as they go.
+fn buffers() -> Vec<Vec<u8>> {
+    let mut buffers = Vec::new();
+    for length in LENGTHS {
+        buffers.push(vec![0; length]);
+        buffers.push(vec![0xFF; length]);
+        let mut container = vec![0; length.clamp(472, 65_536)];
+        assert_eq!(model::create(&mut container, &[7; 20], &ENABLER).number, 0);
+        container.resize(length, 0);
+        buffers.push(container);
+    }
+    buffers
+}
+
+/// Requests of 0 and 65,537 bytes and between, of each kind.
+fn requests() -> Vec<Vec<u8>> {
+    let mut requests = vec![Vec::new()];
+    for length in [1, 4, 33, 37, 40, 93, 65_536, 65_537] {
+        for kind in 0..=6 {
+            let mut request = vec![0; length];
+            request[0] = kind;
+            requests.push(request.clone());
+            if kind == 2 && length > 4 {
+                request[4] = 1;
+                requests.push(request);
+            } else if kind == 1 && length >= 40 {
+                request[8..40].copy_from_slice(&ENABLER);
+                requests.push(request);
+            }
+        }
+    }
+    // The longest that is well formed, and one byte more. All that it writes is cut.
+    let mut longest = vec![1, 0, 1, 1, 0, 0, 0, 0];
+    longest.extend(ENABLER);
+    longest.extend([0; 4]);
+    longest.extend((65_536_u32 - 48).to_be_bytes());
+    for length in [65_536, 65_537] {
+        longest.resize(length, 0);
+        requests.push(longest.clone());
+    }
+    requests
+}
+
+#[test]
+fn apply_takes_any_lengths() {
+    let mut met = [0; 13];
+    for buffer in buffers() {
+        for request in requests() {
+            for space in [0, 1, 65_537] {
+                let (mut container, mut reply) = (buffer.clone(), vec![0xA5; space]);
+                let (mut by_model, mut reply_by_model) = (buffer.clone(), reply.clone());
+                let answer = ffi::apply(&mut container, &request, &mut reply);
+                let modelled = model::apply(&mut by_model, &request, &mut reply_by_model);
+                let lengths = (buffer.len(), request.len(), space);
+                assert_eq!(answer.number, modelled.number, "{lengths:?}");
+                assert_eq!((answer.node, answer.count), (modelled.node, modelled.count));
+                assert!(
+                    container == by_model && reply == reply_by_model,
+                    "{lengths:?}"
+                );
+                met[answer.number as usize] += 1;
+            }
+        }
+    }
+    for number in [0, 1, 2, 3, 5, 9] {
+        assert!(met[number] > 0, "outcome {number} was never met");
+    }
+}
+
+/// Lent for reading only, a container answers reads; any other request is as the empty one.
+#[test]
+fn read_takes_any_lengths() {
+    let mut met = [0; 13];
+    for buffer in buffers() {
+        for request in requests() {
+            let taken = match request.first() {
+                Some(5) => &request[..],
+                _ => &[],
+            };
+            for space in [0, 1, 65_537] {
+                let (mut reply, mut by_model) = (vec![0xA5; space], buffer.clone());
+                let mut reply_by_model = reply.clone();
+                let answer = ffi::read(&buffer, &request, &mut reply);
+                let modelled = model::apply(&mut by_model, taken, &mut reply_by_model);
+                let lengths = (buffer.len(), request.len(), space);
+                assert_eq!(answer.number, modelled.number, "{lengths:?}");
+                assert_eq!((answer.node, answer.count), (modelled.node, modelled.count));
+                assert!(buffer == by_model && reply == reply_by_model, "{lengths:?}");
+                met[answer.number as usize] += 1;
+            }
+        }
+    }
+    for number in [0, 1, 2, 3] {
+        assert!(met[number] > 0, "outcome {number} was never met");
+    }
+}
+
+#[test]
+fn create_takes_any_lengths() {
+    for buffer in buffers() {
+        for node in [0, 19, 20, 21, 65_537] {
+            for enabler in [0, 31, 32, 33, 65_537] {
+                let (node, enabler) = (vec![7; node], vec![0xEE; enabler]);
+                let (mut container, mut by_model) = (buffer.clone(), buffer.clone());
+                let answer = ffi::create(&mut container, &node, &enabler);
+                let modelled = model::create(&mut by_model, &node, &enabler);
+                assert_eq!(answer.number, modelled.number);
+                assert_eq!((answer.node, answer.count), ([0; 20], 0));
+                assert!(container == by_model);
+            }
+        }
+    }
+}
+
+#[test]
+fn checks_take_any_lengths() {
+    for buffer in buffers() {
+        let in_container = ffi::check_container(&buffer);
+        assert_eq!(in_container.number, model::check_container(&buffer).number);
+        let bare = ffi::check_share(&buffer);
+        assert_eq!(bare.number, model::check_share(&buffer).number);
+        assert_eq!((in_container.bounds, bare.bounds), ([0; 7], [0; 7]));
+    }
+}

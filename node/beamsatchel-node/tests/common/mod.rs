@@ -1,0 +1,110 @@
+//! What several tests build: a slot with leases, and a share whose fields and parts all differ.
+
+#![allow(dead_code)] // Each test uses some of it.
+
+use beamsatchel_node::{
+    CancelToken, Container, Lease, NodeId, RenewalToken, TestAndWrite, WriteEnabler,
+};
+use std::num::NonZeroU32;
+
+pub const NODE: NodeId = NodeId(rising(0x05));
+pub const ENABLER: WriteEnabler = WriteEnabler::new(rising(0xE0));
+
+/// N bytes that rise from a first one, so that a byte too early or too late is another byte.
+pub const fn rising<const N: usize>(first: u8) -> [u8; N] {
+    let mut bytes = [0; N];
+    let mut at = 0;
+    while at < N {
+        bytes[at] = first.wrapping_add(at as u8);
+        at += 1;
+    }
+    bytes
+}
+
+/// The lease with a number, from which each of its fields follows.
+pub fn lease(number: u8) -> Lease {
+    Lease {
+        owner: NonZeroU32::new(0x0A0B_0C00 + u32::from(number)).unwrap(),
+        expiry: 0x1000_0000 + 100 * u32::from(number),
+        renewal: RenewalToken::new(rising(0x20 + number)),
+        cancel: CancelToken::new(rising(0x80 + number)),
+        node: NodeId(rising(0xB0 + number)),
+    }
+}
+
+/// The bytes of a fresh container.
+pub fn fresh(length: usize) -> Vec<u8> {
+    let mut bytes = vec![0x55; length];
+    Container::create(&mut bytes[..], NODE, ENABLER).unwrap();
+    bytes
+}
+
+/// The bytes of a container with this data, and no leases.
+pub fn with_data(length: usize, data: &[u8]) -> Vec<u8> {
+    let mut slot = Container::adopt(fresh(length));
+    let request = TestAndWrite::new(ENABLER).write(0, data).unwrap();
+    assert!(slot.test_and_write(&request, &mut []).unwrap().is_done());
+    slot.into_buffer()
+}
+
+/// The bytes of a container with this data, and leases 3 and 7 at the places 2 and 6: there are empty places among the
+/// four and among the three extras.
+pub fn slot(length: usize, data: &[u8]) -> Vec<u8> {
+    let mut slot = Container::adopt(with_data(length, data));
+    for number in 1..=7 {
+        assert_eq!(slot.add_lease(lease(number)), Ok(u64::from(number)));
+    }
+    for (number, left) in [(2, 6), (4, 5), (5, 4), (6, 3), (1, 2)] {
+        assert_eq!(slot.cancel_lease(lease(number).cancel), Ok(left));
+    }
+    slot.into_buffer()
+}
+
+/// Where the parts of [`share`] begin, and where the last one ends.
+pub const BOUNDS: [usize; 7] = [107, 112, 119, 255, 287, 544, 555];
+
+/// A good share, k = 3 and N = 10, whose fields and parts all differ: in length, in their bytes, and in where they lie.
+pub fn share() -> Vec<u8> {
+    let mut share = vec![0];
+    share.extend(0x0102_0304_0506_0708_u64.to_be_bytes());
+    share.extend(rising::<32>(0x09)); // R
+    share.extend(rising::<16>(0x60)); // IV
+    share.extend([3, 10]);
+    share.extend(0x0303_u64.to_be_bytes()); // segment size
+    share.extend(0x0302_u64.to_be_bytes()); // data length
+    for offset in &BOUNDS[1..5] {
+        share.extend((*offset as u32).to_be_bytes());
+    }
+    for offset in &BOUNDS[5..] {
+        share.extend((*offset as u64).to_be_bytes());
+    }
+    share.extend([0xB1; 5]);
+    share.extend([0xB2; 7]);
+    for node_number in [30, 0, 8, 16] {
+        share.extend([0, node_number]);
+        share.extend([0xB3; 32]);
+    }
+    share.extend([0xB4; 32]);
+    share.extend([0xB5; 257]);
+    share.extend([0xB6; 11]);
+    assert_eq!(share.len(), BOUNDS[6]);
+    share
+}
+
+/// [`share`], spoiled so that it is refused with a number from 21 to 29.
+pub fn bad_share(number: u32) -> Vec<u8> {
+    let mut share = share();
+    match number {
+        21 => share.truncate(106),
+        22 => share[0] = 1,
+        23 => share[57] = 11,
+        24 => share[66] ^= 1,
+        25 => share[106] ^= 1,
+        26 => share[BOUNDS[2] + 1] = 31,
+        27 => share[90] += 1,
+        28 => share[98] += 1,
+        29 => share[1..9].fill(0xFF),
+        _ => unreachable!(),
+    }
+    share
+}

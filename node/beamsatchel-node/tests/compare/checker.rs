@@ -1,0 +1,220 @@
+//! Runs a case through model, library and the fast writing, and compares all that they give.
+
+use crate::case::Case;
+use crate::tally::{Call, Tally};
+use beamsatchel_model::{self as model, Request};
+use beamsatchel_node::ffi::{self, RawAnswer, RawShare};
+use beamsatchel_node::{Clause, Fault, View};
+
+/// Where a container's data begins.
+const DATA: u64 = 468;
+
+#[derive(Default)]
+pub struct Checker {
+    pub tally: Tally,
+}
+
+impl Checker {
+    /// Applies the case's request. Container and reply space are those after it then.
+    pub fn apply(&mut self, case: &mut Case) -> model::Answer {
+        let before = case.clone();
+        let answer = model::apply(&mut case.container, &case.request, &mut case.reply);
+
+        let mut by_library = before.clone();
+        let library = ffi::apply(
+            &mut by_library.container,
+            &by_library.request,
+            &mut by_library.reply,
+        );
+        compare_case(
+            "library",
+            &before,
+            (&answer, case),
+            (of(library), &by_library),
+        );
+
+        let mut by_fast = before.clone();
+        let fast = model::fast::apply(&mut by_fast.container, &by_fast.request, &mut by_fast.reply);
+        compare_case("fast", &before, (&answer, case), (fast, &by_fast));
+
+        compare_read(&before);
+        demand_1(&before, &answer, case);
+        compare_view(&before.container, &answer);
+        self.tally
+            .outcome(Call::of_request(&case.request), answer.number);
+        answer
+    }
+
+    /// Creates in a buffer, which is the one after it then.
+    pub fn create(&mut self, buffer: &mut [u8], node: &[u8], enabler: &[u8]) -> model::Answer {
+        let before = buffer.to_vec();
+        let mut by_library = before.clone();
+        let answer = model::create(buffer, node, enabler);
+        let library = of(ffi::create(&mut by_library, node, enabler));
+        assert!(
+            answer == library && buffer == by_library,
+            "create differs\nmodel   {answer:?}\nlibrary {library:?}\nnode {}\nenabler {}\nbuffer {}",
+            hex(node),
+            hex(enabler),
+            hex(&before)
+        );
+        self.tally.outcome(Call::Create, answer.number);
+        answer
+    }
+
+    /// Checks bare share bytes.
+    pub fn share(&mut self, share: &[u8]) -> u32 {
+        let checked = model::check_share(share);
+        let library = ffi::check_share(share);
+        let fast = model::fast::check_share(share);
+        assert!(
+            checked == of_share(library, 0) && checked == fast,
+            "share differs\nmodel   {checked:?}\nlibrary {library:?}\nfast    {fast:?}\nshare {}",
+            hex(share)
+        );
+        self.tally.outcome(Call::BareShare, checked.number);
+        checked.number
+    }
+
+    /// Checks the share in a container.
+    pub fn share_in_container(&mut self, container: &[u8]) -> u32 {
+        let checked = model::check_container(container);
+        let library = ffi::check_container(container);
+        let fast = model::fast::check_container(container);
+        assert!(
+            checked == of_share(library, DATA) && checked == fast,
+            "share differs\nmodel   {checked:?}\nlibrary {library:?}\nfast    {fast:?}\ncontainer {}",
+            hex(container)
+        );
+        self.tally.outcome(Call::ShareInContainer, checked.number);
+        checked.number
+    }
+}
+
+/// Lent for reading only, a container answers reads, and takes every other request for an empty one.
+fn compare_read(before: &Case) {
+    let mut by_library = before.reply.clone();
+    let library = ffi::read(&before.container, &before.request, &mut by_library);
+
+    let mut by_model = before.clone();
+    if !matches!(Request::from_bytes(&before.request), Some(Request::Read(_))) {
+        by_model.request.clear();
+    }
+    let answer = model::apply(
+        &mut by_model.container,
+        &by_model.request,
+        &mut by_model.reply,
+    );
+    assert!(
+        answer == of(library) && by_model.reply == by_library,
+        "read differs\n{}\nmodel   {answer:?}\nlibrary {library:?}",
+        show(before)
+    );
+}
+
+/// A refused request changes no container byte; reply space changes only when a request is done, or when a failed
+/// test reports the old bytes that it looked at. And what is done leaves a container that its parts give back.
+fn demand_1(before: &Case, answer: &model::Answer, after: &Case) {
+    let written = match (answer.number, before.request.first()) {
+        (0, Some(1 | 5)) | (8, _) => answer.count as usize,
+        _ => 0,
+    };
+    assert_eq!(before.reply[written..], after.reply[written..]);
+    if answer.number == 0 {
+        let parts = model::Container::from_bytes(&after.container).expect("well formed");
+        assert_eq!(parts.to_bytes(), after.container);
+    } else {
+        assert_eq!(before.container, after.container);
+    }
+}
+
+/// The crate's own look at the bytes, for dumps, finds what the model finds.
+fn compare_view(container: &[u8], answer: &model::Answer) {
+    match View::open(container) {
+        Err(refusal) => {
+            assert_eq!(refusal.reason.number(), answer.number);
+            let fault = Fault::find(container).expect("a refusal is explained");
+            let by_length = fault.clause == Clause::BufferLength;
+            assert_eq!(by_length, answer.number == 1, "{fault}");
+        }
+        Ok(view) => {
+            assert_eq!(Fault::find(container), None);
+            let parts = model::Container::from_bytes(container).expect("well formed");
+            assert_eq!(view.node_id().0, parts.node);
+            assert_eq!(*view.write_enabler().expose(), parts.enabler);
+            assert_eq!(view.data(), parts.data);
+            assert_eq!(view.used_len() as u64, parts.used());
+            let mut slots = vec![None; 4 + view.extra_places()];
+            for (slot, lease) in view.leases() {
+                slots[slot] = Some(model::Lease::from_record(&lease.to_record()));
+            }
+            assert_eq!(slots, parts.places);
+        }
+    }
+}
+
+fn of(raw: RawAnswer) -> model::Answer {
+    model::Answer {
+        number: raw.number,
+        node: raw.node,
+        count: raw.count,
+    }
+}
+
+/// The library's share, with bounds from the share's first byte.
+fn of_share(raw: RawShare, start: u64) -> model::Share {
+    let from_start = |bound: u64| {
+        if raw.number == 0 {
+            bound.wrapping_sub(start)
+        } else {
+            bound
+        }
+    };
+    model::Share {
+        number: raw.number,
+        bounds: raw.bounds.map(from_start),
+    }
+}
+
+fn compare_case(
+    who: &str,
+    before: &Case,
+    model: (&model::Answer, &Case),
+    other: (model::Answer, &Case),
+) {
+    let same = *model.0 == other.0
+        && model.1.container == other.1.container
+        && model.1.reply == other.1.reply;
+    if !same {
+        panic!(
+            "{who} differs\n{}\nmodel: {:?}\n{}\n{who}: {:?}\n{}",
+            show(before),
+            model.0,
+            show(model.1),
+            other.0,
+            show(other.1)
+        );
+    }
+}
+
+pub fn show(case: &Case) -> String {
+    format!(
+        "container {}\nrequest {}\nreply space {}",
+        hex(&case.container),
+        hex(&case.request),
+        hex(&case.reply)
+    )
+}
+
+/// The length and the bytes, but for zeros at the end.
+fn hex(bytes: &[u8]) -> String {
+    let used = bytes
+        .iter()
+        .rposition(|byte| *byte != 0)
+        .map_or(0, |last| last + 1);
+    let shown: String = bytes[..used]
+        .iter()
+        .map(|byte| format!("{byte:02x}"))
+        .collect();
+    format!("({} bytes) {shown}", bytes.len())
+}

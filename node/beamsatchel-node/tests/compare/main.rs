@@ -1,0 +1,84 @@
+//! The library against the model of the rules (docs/RULES.md): answer record, whole container,
+//! whole reply space.
+//!
+//! `BEAMSATCHEL_SEED` sets another seed, `BEAMSATCHEL_CASES` a longer run. The run prints how
+//! often each outcome and each pair of outcomes was met, and fails where a possible one was not.
+
+mod case;
+mod checker;
+mod containers;
+mod creates;
+mod edges;
+mod histories;
+mod pairs;
+mod requests;
+mod rng;
+mod share_pairs;
+mod shares;
+mod singles;
+mod tally;
+mod woven;
+
+use checker::Checker;
+use rng::Rng;
+use std::time::Instant;
+
+const DEFAULT_SEED: u64 = 0xBEA5_A7C4_E100_0001;
+const DEFAULT_CASES: u64 = 1_000_000;
+
+fn main() {
+    let seed = from_environment("BEAMSATCHEL_SEED", DEFAULT_SEED);
+    let cases = from_environment("BEAMSATCHEL_CASES", DEFAULT_CASES);
+    println!("comparison with the model: BEAMSATCHEL_SEED={seed} BEAMSATCHEL_CASES={cases}");
+
+    let mut checker = Checker::default();
+    let mut section = |name: &str, run: &dyn Fn(&mut Rng, &mut Checker)| {
+        let (before, start) = (checker.tally.cases, Instant::now());
+        // Each section has its own numbers, so that a change in one leaves the others alone.
+        let salt = name
+            .bytes()
+            .fold(seed, |salt, byte| salt.rotate_left(8) ^ u64::from(byte));
+        run(&mut Rng::new(salt), &mut checker);
+        println!(
+            "{name:>20}: {:>9} cases, {:.1} s",
+            checker.tally.cases - before,
+            start.elapsed().as_secs_f64()
+        );
+    };
+    section("edges", &|rng, checker| edges::run(rng, checker));
+    section("pairs", &|rng, checker| {
+        pairs::run(cases / 20_000, rng, checker)
+    });
+    section("pairs in shares", &|rng, checker| {
+        share_pairs::run(cases / 50_000, rng, checker)
+    });
+    section("creates", &|rng, checker| {
+        creates::run(cases / 30, rng, checker)
+    });
+    section("shares", &|rng, checker| {
+        shares::run(cases / 6, rng, checker)
+    });
+    section("histories", &|rng, checker| {
+        histories::run(cases / 10, rng, checker)
+    });
+    section("woven histories", &|rng, checker| {
+        woven::run(cases / 5, rng, checker)
+    });
+    section("single requests", &|rng, checker| {
+        singles::run(cases.saturating_sub(checker.tally.cases), rng, checker)
+    });
+
+    checker.tally.print();
+    checker.tally.demand_all();
+    println!("{} cases, no difference", checker.tally.cases);
+}
+
+/// A number from the environment; a value that is no number is an error, not the default.
+fn from_environment(variable: &str, default: u64) -> u64 {
+    match std::env::var(variable) {
+        Ok(value) => value
+            .parse()
+            .unwrap_or_else(|_| panic!("{variable}={value} is no number")),
+        Err(_) => default,
+    }
+}

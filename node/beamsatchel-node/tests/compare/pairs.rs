@@ -1,0 +1,213 @@
+//! Every two outcomes of a request that can apply together: a case with the one flaw gives the
+//! one, with the other flaw the other, and with both the lower.
+
+use crate::case::Case;
+use crate::checker::Checker;
+use crate::rng::Rng;
+use crate::tally::Call;
+use crate::{containers, requests};
+use beamsatchel_model::{Container, Lease, Read, Request, Test, TestAndWrite, Write};
+
+const CALLS: [Call; 6] = [
+    Call::TestAndWrite,
+    Call::Add,
+    Call::Renew,
+    Call::Cancel,
+    Call::Read,
+    Call::UnknownKind,
+];
+
+pub fn run(rounds: u64, rng: &mut Rng, checker: &mut Checker) {
+    for call in CALLS {
+        for pair @ (low, high) in call.pairs() {
+            for _ in 0..rounds.max(10) {
+                for (flaws, number) in [(&[low][..], low), (&[high], high), (&[low, high], low)] {
+                    let answer = checker.apply(&mut case(call, flaws, rng));
+                    assert_eq!(answer.number, number, "{call:?} with flaws {flaws:?}");
+                }
+                checker.tally.pair(call, pair);
+            }
+        }
+    }
+}
+
+/// A case of a call with exactly these flaws, each named by its outcome.
+fn case(call: Call, flaws: &[u32], rng: &mut Rng) -> Case {
+    let has = |flaw| flaws.contains(&flaw);
+    let (container, request) = match call {
+        Call::TestAndWrite => test_and_write(&has, rng),
+        Call::Add => add(&has, rng),
+        Call::Renew | Call::Cancel => renew_or_cancel(call, &has, rng),
+        _ => read(&has, rng),
+    };
+    let needed = requests::reply_length(&request, &container);
+    let space = if has(7) {
+        rng.below(needed)
+    } else {
+        needed + rng.pick(&[0, 0, 1, 50])
+    };
+    Case {
+        reply: rng.bytes(space),
+        request: match (call, has(3)) {
+            // An unknown kind breaks the format whether it is asked to or not.
+            (Call::UnknownKind, _) => requests::unknown(rng),
+            (_, true) => requests::broken(rng, &request),
+            (_, false) => requests::encode(&request),
+        },
+        container: container_bytes(&has, &container, rng),
+    }
+}
+
+/// The container's bytes with flaws 1 and 2 where they are wanted.
+fn container_bytes(has: &dyn Fn(u32) -> bool, container: &Container, rng: &mut Rng) -> Vec<u8> {
+    match (has(1), has(2)) {
+        (false, false) => container.to_bytes(),
+        (false, true) => containers::damaged(rng, container),
+        (true, false) => containers::of_wrong_length(rng, container),
+        (true, true) => {
+            let mut bytes = containers::of_wrong_length(rng, container);
+            bytes.iter_mut().take(1).for_each(|byte| *byte ^= 1);
+            bytes
+        }
+    }
+}
+
+fn small_container(rng: &mut Rng) -> Container {
+    let (size, extras, room) = (rng.below(60), rng.below(3), rng.within(30..=100));
+    containers::with(rng, size, extras, room, 20)
+}
+
+fn test_and_write(has: &dyn Fn(u32) -> bool, rng: &mut Rng) -> (Container, Request) {
+    let container = small_container(rng);
+    let size = container.data.len();
+    let room = container.length - container.used() as usize;
+    let mut enabler = container.enabler;
+    if has(5) {
+        enabler[rng.below(32)] ^= 1 << rng.below(8);
+    }
+    // A test that holds, whatever its piece, so that there is a reply.
+    let at = rng.below(size + 1);
+    let mut tests = vec![Test {
+        offset: at as i32,
+        length: rng.below(20) as u32,
+        opcode: 5,
+        specimen: Vec::new(),
+    }];
+    let at = rng.below(size + 1);
+    let count = rng.below(10);
+    let mut writes = vec![Write {
+        offset: at as i32,
+        data: rng.letters(count),
+    }];
+    if has(8) {
+        tests.push(Test {
+            offset: rng.pick(&[0, size as i32, i32::MAX]),
+            length: 3,
+            opcode: 1,
+            specimen: Vec::new(),
+        });
+    }
+    if has(11) {
+        let past = rng.pick(&[1, 1, 2, 70_000]);
+        writes.push(Write {
+            offset: (size + room + past) as i32 - 1,
+            data: vec![b'Z'],
+        });
+    }
+    if has(4) {
+        // The offset of an entry that would do nothing else counts as well.
+        let offset = rng.pick(&[-1, -2, i32::MIN]);
+        if rng.chance(50) {
+            let data = rng.pick(&[&b""[..], b"Z"]).to_vec();
+            writes.insert(rng.below(writes.len() + 1), Write { offset, data });
+        } else {
+            let test = Test {
+                offset,
+                length: rng.pick(&[0, 1]),
+                opcode: 5,
+                specimen: Vec::new(),
+            };
+            tests.insert(rng.below(tests.len() + 1), test);
+        }
+    }
+    let request = TestAndWrite {
+        enabler,
+        tests,
+        writes,
+        cut: None,
+    };
+    (container, Request::TestAndWrite(request))
+}
+
+fn add(has: &dyn Fn(u32) -> bool, rng: &mut Rng) -> (Container, Request) {
+    // 10 needs all 64 leases; 11 needs all places taken and no room for another extra.
+    let leases = match (has(10), has(11)) {
+        (true, _) => 64,
+        (false, true) => rng.within(4..=63),
+        (false, false) => rng.within(0..=63),
+    };
+    let room = if has(11) {
+        rng.below(92)
+    } else {
+        rng.within(92..=200)
+    };
+    let size = rng.below(60);
+    let container = containers::with_own_tokens(rng, leases, size, room);
+    let request = Request::Add(Lease {
+        renewal: containers::own_token(255),
+        ..containers::lease(rng)
+    });
+    (container, request)
+}
+
+fn renew_or_cancel(call: Call, has: &dyn Fn(u32) -> bool, rng: &mut Rng) -> (Container, Request) {
+    let leases = rng.within(1..=10);
+    let (size, room) = (rng.below(60), rng.below(100));
+    let container = containers::with_own_tokens(rng, leases, size, room);
+    let slot = rng.below(leases);
+    let request = match (call, has(9)) {
+        (Call::Renew, false) => Request::Renew {
+            token: containers::own_token(slot),
+            expiry: containers::expiry(rng),
+        },
+        // The other token of a lease does not do.
+        (Call::Renew, true) => Request::Renew {
+            token: containers::own_token(100 + slot),
+            expiry: containers::expiry(rng),
+        },
+        (_, false) => Request::Cancel {
+            token: containers::own_token(100 + slot),
+        },
+        (_, true) => Request::Cancel {
+            token: containers::own_token(slot),
+        },
+    };
+    (container, request)
+}
+
+fn read(has: &dyn Fn(u32) -> bool, rng: &mut Rng) -> (Container, Request) {
+    let container = small_container(rng);
+    let size = container.data.len();
+    let start = rng.below(size + 1);
+    let mut reads = vec![Read {
+        offset: start as i32,
+        length: rng.below(size - start + 1) as u32,
+    }];
+    if has(6) {
+        let (offset, length) = rng.pick(&[
+            (size as i32, 1),
+            (size as i32 + 1, 0),
+            (0, size as u32 + 1),
+            (i32::MAX, u32::MAX),
+        ]);
+        reads.push(Read { offset, length });
+    }
+    if has(4) {
+        let read = Read {
+            offset: rng.pick(&[-1, -2, i32::MIN]),
+            length: rng.pick(&[0, 1, 2]),
+        };
+        reads.insert(rng.below(reads.len() + 1), read);
+    }
+    (container, Request::Read(reads))
+}

@@ -1,0 +1,196 @@
+//! Requests with good format that are aimed at a container: most are done, and each refusal
+//! occurs.
+
+use crate::containers::{expiry, lease, token};
+use crate::rng::Rng;
+use beamsatchel_model::{Container, Read, Request, Test, TestAndWrite, Write};
+
+/// A request with good format, aimed at a container.
+pub fn any(rng: &mut Rng, container: &Container) -> Request {
+    match rng.below(100) {
+        0..45 => Request::TestAndWrite(test_and_write(rng, container)),
+        45..70 => any_lease_request(rng, container),
+        _ => Request::Read(reads(rng, container)),
+    }
+}
+
+/// A read or a test-and-write.
+pub fn any_data_request(rng: &mut Rng, container: &Container) -> Request {
+    if rng.chance(65) {
+        Request::TestAndWrite(test_and_write(rng, container))
+    } else {
+        Request::Read(reads(rng, container))
+    }
+}
+
+/// An add, a renewal or a cancel.
+pub fn any_lease_request(rng: &mut Rng, container: &Container) -> Request {
+    // Mostly the token of some lease; else one of few that may be there.
+    let known = container.leases().count();
+    let aimed = (known > 0 && rng.chance(50)).then(|| container.leases().nth(rng.below(known)));
+    let aimed = aimed.flatten();
+    match rng.below(10) {
+        0..5 => Request::Add(lease(rng)),
+        5..7 => Request::Renew {
+            token: aimed.map_or_else(|| token(rng), |lease| lease.renewal),
+            expiry: expiry(rng),
+        },
+        _ => Request::Cancel {
+            token: aimed.map_or_else(|| token(rng), |lease| lease.cancel),
+        },
+    }
+}
+
+fn test_and_write(rng: &mut Rng, container: &Container) -> TestAndWrite {
+    let mut enabler = container.enabler;
+    if rng.chance(4) {
+        enabler[rng.below(32)] ^= 1 << rng.below(8);
+    }
+    let tests = (0..entries(rng)).map(|_| test(rng, container)).collect();
+    let writes: Vec<Write> = (0..entries(rng)).map(|_| write(rng, container)).collect();
+    let cut = rng.chance(40).then(|| cut(rng, container, &writes));
+    TestAndWrite {
+        enabler,
+        tests,
+        writes,
+        cut,
+    }
+}
+
+/// Few entries mostly, up to 16.
+fn entries(rng: &mut Rng) -> usize {
+    match rng.below(100) {
+        0..30 => 0,
+        30..90 => rng.within(1..=3),
+        90..98 => rng.within(4..=15),
+        _ => 16,
+    }
+}
+
+/// A test that mostly holds.
+fn test(rng: &mut Rng, container: &Container) -> Test {
+    let size = container.data.len();
+    let offset = offset(rng, size);
+    let length = length(rng, size, offset);
+    let start = size.min(offset.max(0) as usize);
+    let piece = &container.data[start..size.min(start + length as usize)];
+    let specimen = specimen(rng, piece);
+    let holding: &[u8] = match piece.cmp(&specimen) {
+        std::cmp::Ordering::Less => &[1, 2, 4],
+        std::cmp::Ordering::Equal => &[2, 3, 5],
+        std::cmp::Ordering::Greater => &[4, 5, 6],
+    };
+    let opcode = if rng.chance(92) {
+        rng.pick(holding)
+    } else {
+        rng.within(1..=6) as u8
+    };
+    Test {
+        offset,
+        length,
+        opcode,
+        specimen,
+    }
+}
+
+/// The piece itself, a neighbour of it in the order, or any bytes.
+fn specimen(rng: &mut Rng, piece: &[u8]) -> Vec<u8> {
+    // A test of long data need not have a long specimen.
+    let mut specimen = piece[..piece.len().min(500)].to_vec();
+    match rng.below(10) {
+        0..5 => {}
+        5 => specimen.truncate(rng.below(specimen.len() + 1)),
+        6 => specimen.push(rng.byte()),
+        7 if !specimen.is_empty() => {
+            let at = rng.below(specimen.len());
+            specimen[at] ^= 1 << rng.below(8);
+        }
+        8 if !specimen.is_empty() => {
+            // Shorter, but greater or less at its last byte: the length alone decides nothing.
+            specimen.truncate(rng.within(1..=specimen.len()));
+            *specimen.last_mut().expect("not empty") ^= 0x80;
+        }
+        _ => {
+            let count = rng.below(20);
+            specimen = rng.letters(count);
+        }
+    }
+    specimen
+}
+
+fn write(rng: &mut Rng, container: &Container) -> Write {
+    let size = container.data.len();
+    let offset = offset(rng, size);
+    let room = (container.length - 472 - 92 * container.extras()) as i64;
+    let count = match rng.below(100) {
+        0..10 => 0,
+        10..80 => rng.within(1..=20),
+        80..95 => rng.below(200),
+        // up to the very end of the room, or one past it
+        _ => (room - i64::from(offset) + rng.pick(&[0, 1])).clamp(0, 2000) as usize,
+    };
+    Write {
+        offset,
+        data: rng.letters(count),
+    }
+}
+
+fn cut(rng: &mut Rng, container: &Container, writes: &[Write]) -> u32 {
+    let size = container.data.len() as u32;
+    let grown = writes
+        .iter()
+        .map(|write| write.offset.max(0) as u32 + write.data.len() as u32)
+        .fold(size, u32::max);
+    match rng.below(10) {
+        0 => 0,
+        1 => grown.saturating_sub(1),
+        2 => grown,
+        3 => grown + 1,
+        4 => rng.pick(&[u32::MAX, 0x7FFF_FFFF, 0x8000_0000]),
+        _ => rng.below(size as usize + 20) as u32,
+    }
+}
+
+fn reads(rng: &mut Rng, container: &Container) -> Vec<Read> {
+    let size = container.data.len();
+    let count = entries(rng);
+    (0..count)
+        .map(|_| {
+            if rng.chance(97) {
+                let offset = rng.below(size + 1);
+                Read {
+                    offset: offset as i32,
+                    length: rng.below(size - offset + 1) as u32,
+                }
+            } else {
+                let offset = offset(rng, size);
+                Read {
+                    offset,
+                    length: length(rng, size, offset),
+                }
+            }
+        })
+        .collect()
+}
+
+/// An offset inside the data or a little past it; seldom the largest, seldom negative.
+fn offset(rng: &mut Rng, size: usize) -> i32 {
+    match rng.below(200) {
+        0..120 => rng.below(size + 1) as i32,
+        120..190 => (size + rng.below(30)) as i32,
+        190..197 => rng.pick(&[i32::MAX, i32::MAX - 1, 65_064, 65_065]),
+        _ => rng.pick(&[-1, -2, i32::MIN, i32::MIN + 1, -(size as i32) - 1]),
+    }
+}
+
+fn length(rng: &mut Rng, size: usize, offset: i32) -> u32 {
+    let rest = size.saturating_sub(offset.max(0) as usize);
+    match rng.below(10) {
+        0 => 0,
+        1 => 1,
+        2 => rest as u32,
+        3 => rest as u32 + 1,
+        4 => rng.pick(&[u32::MAX, 0x8000_0000, 0x7FFF_FFFF, 65_536]),
+        _ => rng.below(rest + 10) as u32,
+    }
+}

@@ -1,0 +1,283 @@
+//! Numbers at the edges, those of docs/RULES.md, with the bytes that it gives.
+
+use beamsatchel_model as model;
+use beamsatchel_node::ffi;
+
+const NODE: [u8; 20] = [7; 20];
+const ENABLER: [u8; 32] = [0xEE; 32];
+
+/// Applies a request by the library and by the model, which must agree.
+fn apply(container: &mut [u8], request: &[u8], reply: &mut [u8]) -> (u32, u64) {
+    let (mut by_model, mut reply_by_model) = (container.to_vec(), reply.to_vec());
+    let answer = ffi::apply(container, request, reply);
+    let modelled = model::apply(&mut by_model, request, &mut reply_by_model);
+    assert_eq!(
+        (answer.number, answer.count),
+        (modelled.number, modelled.count)
+    );
+    assert_eq!((answer.node, &*container), (modelled.node, &by_model[..]));
+    assert_eq!(reply, reply_by_model);
+    (answer.number, answer.count)
+}
+
+fn fresh(length: usize) -> Vec<u8> {
+    let mut container = vec![0x55; length];
+    let answer = ffi::create(&mut container, &NODE, &ENABLER);
+    assert_eq!(answer.number, 0);
+    container
+}
+
+/// An offset and new data.
+type Write<'a> = (i32, &'a [u8]);
+
+/// A kind 1 request without tests.
+fn write(writes: &[Write], cut: Option<u32>) -> Vec<u8> {
+    let mut request = vec![1, 0, writes.len() as u8, u8::from(cut.is_some())];
+    request.extend(cut.unwrap_or(0).to_be_bytes());
+    request.extend(ENABLER);
+    for (offset, data) in writes {
+        request.extend(offset.to_be_bytes());
+        request.extend((data.len() as u32).to_be_bytes());
+    }
+    writes.iter().for_each(|(_, data)| request.extend(*data));
+    request
+}
+
+/// A kind 1 request with one test of up to ten bytes at 0, and one write at 0.
+fn test(opcode: u8, specimen: &[u8], data: &[u8]) -> Vec<u8> {
+    let mut request = vec![1, 1, 1, 0, 0, 0, 0, 0];
+    request.extend(ENABLER);
+    request.extend([0, 0, 0, 0, 0, 0, 0, 10, opcode, 0, 0, specimen.len() as u8]);
+    request.extend([0, 0, 0, 0, 0, 0, 0, data.len() as u8]);
+    request.extend(specimen);
+    request.extend(data);
+    request
+}
+
+fn add(number: u8) -> Vec<u8> {
+    let mut request = vec![2, 0, 0, 0, 1, 0, 0, 0, 9];
+    request.extend([number; 32]);
+    request.extend([number; 32]);
+    request.extend(NODE);
+    request
+}
+
+fn number(container: &mut [u8], request: &[u8]) -> u32 {
+    apply(container, request, &mut []).0
+}
+
+fn data(container: &[u8]) -> &[u8] {
+    let size = u64::from_be_bytes(container[84..92].try_into().unwrap());
+    &container[468..468 + size as usize]
+}
+
+#[test]
+fn p1_buffer_lengths() {
+    for (length, number) in [(471, 1), (472, 0), (65_536, 0), (65_537, 1)] {
+        assert_eq!(
+            ffi::create(&mut vec![0; length], &NODE, &ENABLER).number,
+            number
+        );
+    }
+}
+
+#[test]
+fn a_fresh_container() {
+    let container = fresh(500);
+    assert_eq!(
+        &container[..32],
+        b"tahoe mutable container v1\x0A\x75\x09\x44\x03\x8E"
+    );
+    assert_eq!(
+        (&container[32..52], &container[52..84]),
+        (&NODE[..], &ENABLER[..])
+    );
+    assert_eq!(
+        container[84..100],
+        [0, 0, 0, 0, 0, 0, 0, 0, 0, 0, 0, 0, 0, 0, 1, 0xD4]
+    );
+    assert!(container[100..].iter().all(|byte| *byte == 0));
+}
+
+#[test]
+fn p2_one_byte_of_room() {
+    assert_eq!(number(&mut fresh(472), &write(&[(0, b"A")], None)), 11);
+    assert_eq!(number(&mut fresh(473), &write(&[(0, b"A")], None)), 0);
+    assert_eq!(number(&mut fresh(473), &write(&[(0, b"AB")], None)), 11);
+}
+
+#[test]
+fn p3_and_p4_zeros_in_gaps_and_after_a_cut() {
+    let mut container = fresh(500);
+    assert_eq!(number(&mut container, &write(&[(3, b"AB")], None)), 0);
+    assert_eq!(data(&container), [0, 0, 0, 0x41, 0x42]);
+    let used = 472 + data(&container).len();
+    assert_eq!(used, 477);
+
+    assert_eq!(number(&mut container, &write(&[], Some(2))), 0);
+    assert_eq!(data(&container), [0, 0]);
+    assert_eq!(number(&mut container, &write(&[(4, b"Z")], None)), 0);
+    assert_eq!(data(&container), [0, 0, 0, 0, 0x5A]);
+}
+
+#[test]
+fn p5_writes_run_in_order() {
+    let long: Write = (0, b"AAAA");
+    let short: Write = (2, b"BB");
+    for (writes, result) in [([long, short], b"AABB"), ([short, long], b"AAAA")] {
+        let mut container = fresh(500);
+        assert_eq!(number(&mut container, &write(&writes, None)), 0);
+        assert_eq!(data(&container), result);
+    }
+}
+
+#[test]
+fn p6_room_is_judged_on_the_final_size() {
+    let request = write(&[(2_147_483_647, b"A")], Some(10));
+    let mut container = fresh(482);
+    assert_eq!(number(&mut container, &request), 0);
+    assert_eq!(data(&container), [0; 10]);
+    assert_eq!(number(&mut fresh(481), &request), 11);
+}
+
+#[test]
+fn p7_a_fifth_lease() {
+    for (length, fifth) in [(563, 11), (564, 0)] {
+        let mut container = fresh(length);
+        for lease in 1..=4 {
+            assert_eq!(
+                apply(&mut container, &add(lease), &mut []),
+                (0, u64::from(lease))
+            );
+        }
+        assert_eq!(number(&mut container, &add(5)), fifth);
+    }
+}
+
+#[test]
+fn p8_a_prefix_is_less() {
+    let mut container = fresh(500);
+    let mut space = [0; 14];
+    // eq with an empty specimen holds on empty data; it then writes `A`.
+    assert_eq!(apply(&mut container, &test(3, b"", b"A"), &mut space).0, 0);
+    // `A` is lt `AB`, and `B` is not less than `AA`.
+    assert_eq!(
+        apply(&mut container, &test(1, b"AB", b"B"), &mut space).0,
+        0
+    );
+    assert_eq!(
+        apply(&mut container, &test(1, b"AA", b"C"), &mut space).0,
+        8
+    );
+    assert_eq!(
+        (&space[..5], data(&container)),
+        (&b"\0\0\0\x01B"[..], &b"B"[..])
+    );
+}
+
+#[test]
+fn p9_a_false_test_comes_before_no_room() {
+    let mut container = fresh(472);
+    assert_eq!(
+        apply(&mut container, &test(4, b"", b"A"), &mut [0; 4]),
+        (8, 4)
+    );
+    assert_eq!(
+        apply(&mut container, &test(3, b"", b"A"), &mut [0; 4]),
+        (11, 0)
+    );
+}
+
+#[test]
+fn p10_a_zero_token_matches_no_empty_lease() {
+    let mut cancel = [0; 33];
+    cancel[0] = 4;
+    assert_eq!(number(&mut fresh(472), &cancel), 9);
+}
+
+#[test]
+fn the_whole_request() {
+    let mut request = vec![1, 1, 1, 0, 0, 0, 0, 0];
+    request.extend([0xEE; 32]);
+    request.extend([0, 0, 0, 0, 0, 0, 0, 1, 3, 0, 0, 0]);
+    request.extend([0, 0, 0, 3, 0, 0, 0, 2]);
+    request.extend([0x41, 0x42]);
+    assert_eq!(request.len(), 62);
+    let mut container = fresh(500);
+    let mut reply = [0xFF; 6];
+    assert_eq!(apply(&mut container, &request, &mut reply), (0, 4));
+    assert_eq!(reply, [0, 0, 0, 0, 0xFF, 0xFF]);
+    assert_eq!(data(&container), [0, 0, 0, 0x41, 0x42]);
+}
+
+#[test]
+fn another_enabler_tells_the_node() {
+    let mut request = write(&[], None);
+    request[8] ^= 1;
+    let answer = ffi::apply(&mut fresh(500), &request, &mut []);
+    assert_eq!((answer.number, answer.node, answer.count), (5, NODE, 0));
+}
+
+/// The share of 2,043 bytes.
+fn share() -> Vec<u8> {
+    let mut share = vec![0; 2043];
+    share[1..9].copy_from_slice(&1_u64.to_be_bytes());
+    share[57..59].copy_from_slice(&[3, 10]);
+    share[59..67].copy_from_slice(&12_u64.to_be_bytes());
+    share[67..75].copy_from_slice(&10_u64.to_be_bytes());
+    for (field, offset) in [(75, 399_u32), (79, 655), (83, 791), (87, 823)] {
+        share[field..field + 4].copy_from_slice(&offset.to_be_bytes());
+    }
+    share[91..99].copy_from_slice(&827_u64.to_be_bytes());
+    share[99..107].copy_from_slice(&2043_u64.to_be_bytes());
+    for (entry, node) in [2_u16, 4, 8, 16].into_iter().enumerate() {
+        share[655 + 34 * entry..][..2].copy_from_slice(&node.to_be_bytes());
+    }
+    share
+}
+
+#[test]
+fn the_share() {
+    let good = share();
+    let checked = ffi::check_share(&good);
+    assert_eq!(checked.number, 0);
+    assert_eq!(checked.bounds, [107, 399, 655, 791, 823, 827, 2043]);
+    assert_eq!(model::check_share(&good).bounds, checked.bounds);
+
+    let mut segment = good.clone();
+    segment[66] = 10;
+    let mut node_number = good;
+    node_number[655 + 34 + 1] = 31;
+    for (share, number) in [(segment, 24), (node_number, 26)] {
+        let checked = ffi::check_share(&share);
+        assert_eq!((checked.number, checked.bounds), (number, [0; 7]));
+        assert_eq!(model::check_share(&share).number, number);
+    }
+}
+
+#[test]
+fn the_share_in_a_container() {
+    let mut container = fresh(4096);
+    assert_eq!(number(&mut container, &write(&[(0, &share())], None)), 0);
+    let parts = beamsatchel_node::Share::in_container(&container)
+        .unwrap()
+        .parts();
+    let inside = &container[468..];
+    let expected = [
+        &inside[107..399],
+        &inside[399..655],
+        &inside[655..791],
+        &inside[791..823],
+        &inside[823..827],
+        &inside[827..2043],
+    ];
+    // The very bytes of the container, not equal ones elsewhere.
+    assert_eq!(
+        parts.map(<[u8]>::as_ptr_range),
+        expected.map(<[u8]>::as_ptr_range)
+    );
+
+    // A byte after the share inside the data is not the share's end.
+    assert_eq!(number(&mut container, &write(&[(2043, b"\0")], None)), 0);
+    assert_eq!(ffi::check_container(&container).number, 25);
+}
