@@ -10,7 +10,7 @@
 extern "C" {
 #endif
 
-/* The outcomes: 0 to 12 for containers, 21 to 29 for shares. The lowest that applies is given. */
+/* The outcomes: 0 to 5 and 7 to 12 for containers, 21 to 29 for shares. The lowest that applies is given. */
 enum beamsatchel_outcome {
     BEAMSATCHEL_DONE = 0,
     BEAMSATCHEL_BUFFER_LENGTH = 1,
@@ -18,7 +18,6 @@ enum beamsatchel_outcome {
     BEAMSATCHEL_REQUEST_FORMAT = 3,
     BEAMSATCHEL_NEGATIVE_OFFSET = 4,
     BEAMSATCHEL_ENABLER_DIFFERS = 5,
-    BEAMSATCHEL_READ_PAST_END = 6,
     BEAMSATCHEL_REPLY_SPACE = 7,
     BEAMSATCHEL_TEST_FALSE = 8,
     BEAMSATCHEL_NO_SUCH_LEASE = 9,

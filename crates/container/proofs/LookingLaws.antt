@@ -18,7 +18,7 @@ use Rattle.rules.specs.Outcomes.{answerOf, noNode, outcome, answered, container
 use Rattle.requests.specs.Forms.{Takes}
 use Rattle.requests.specs.declared.forms.Form.the-variants.{Broken}
 use Rattle.rules.proofs.RefusalLaws.{bad-length, malformed, broken}
-use Rattle.reading.proofs.ReadLaws.{read-container}
+use Rattle.rules.proofs.ShortReads.{read-container}
 use Rattle.container.specs.Looking.{readBytes, readOf, ReadOnly}
 
 -- A read passes as it is, so that its answer and reply are the reader's.
@@ -95,7 +95,7 @@ module _ (c q r : List ℕ) (f : wellFormed c ≡ true) (o : Octets c) where
   formed-kept (some (add l)) e = empty-kept
   formed-kept (some (renew t x)) e = empty-kept
   formed-kept (some (cancel t)) e = empty-kept
-  formed-kept (some (read rs)) e = sym (read-container c q r rs f o e)
+  formed-kept (some (read rs)) e = read-container c q r rs f o e
 
 kept : (c q r : List ℕ) → Octets c → containerAfter c (readOf q) r ≡ c
 unfolding readOf

@@ -1,6 +1,6 @@
 // Small choices by value, so that the loops that make them have no branch of their own.
 ghost use mathlib.Core.Path.{_≡_};
-ghost use mathlib.Core.Bool.{true, cond, _&&_};
+ghost use mathlib.Core.Bool.{_&&_};
 ghost use Prim.Native.Nat.{_≤_, _<_};
 
 // The lesser of two numbers: at most each, and one of them.
@@ -15,11 +15,4 @@ pub fn both(x: bool, y: bool) -> bool
     ensures { λ r. ⌜ r ≡ (x && y) ⌝ }
 {
     if x { y } else { false }
-}
-
-// Whether one holds or the other.
-pub fn either(x: bool, y: bool) -> bool
-    ensures { λ r. ⌜ r ≡ cond x true y ⌝ }
-{
-    if x { true } else { y }
 }

@@ -21,9 +21,6 @@ pub fn read(c: &[u8], frame: Frame, q: &[u8], t: Table, r: &mut [u8]) -> Answer
     if !asked.resolves {
         return answer(4, 0);
     }
-    if asked.exceeds {
-        return answer(6, 0);
-    }
     if r.len() < length {
         return answer(7, 0);
     }

@@ -152,7 +152,6 @@ fn name(outcome: u32) {
         3 => write(b" 3 malformed request or argument"),
         4 => write(b" 4 negative offset"),
         5 => write(b" 5 wrong write enabler"),
-        6 => write(b" 6 read past the end"),
         7 => write(b" 7 reply space too short"),
         8 => write(b" 8 test is false"),
         9 => write(b" 9 no such lease"),

@@ -1,33 +1,32 @@
 -- The pieces that tables ask for, turns of the walks over a table, and the reply. Assumes nothing.
 use mathlib.Core.Path.{_≡_, refl, sym, ap, _∙_}
-use mathlib.Core.Bool.{Bool, true, false, cond, _&&_}
+use mathlib.Core.Bool.{Bool, true, false, _&&_}
 use mathlib.Core.List.{List, [], _∷_, _++_, map}
 use Prim.Native.Nat.{ℕ, zero, suc, _+_, _*_, _-_, _≤_, _<_}
 use native.Mathlib.Nat.{mul-suc}
 use native.Mathlib.Omega.{arith}
-use lib.Dec.{ltb}
 use mir.Syntax.{w32}
 use mir.Val.{toZ, ofZ}
 use lib.ListN.{length, take, drop, length-append, length-take, length-drop}
-use Rattle.octets.specs.Lists.{every, anyOf}
+use Rattle.octets.specs.Lists.{every}
 use Rattle.octets.specs.Moves.{put}
 use Rattle.octets.specs.Numbers.{digits}
 use Rattle.octets.specs.Strings.{order, join}
 use Rattle.octets.specs.Facts.{Octets}
-use Rattle.octets.proofs.ListLaws.{and-assoc, and-true, cond-true-false}
+use Rattle.octets.proofs.ListLaws.{and-assoc, and-true}
 use Rattle.octets.proofs.MoveLaws.{put-put, put-end, put-apart, put-length}
 use Rattle.octets.proofs.NumberLaws.{length-digits}
 use Rattle.format.specs.Layout.{limit}
 use Rattle.rules.specs.Requests.{entrySize, testSize, entryOffset, entryCount, entryOpcode, entrySpecimen, allFrom}
 use Rattle.rules.specs.Requests.{sumFrom, testsFrom, readsFrom, entryLimit}
-use Rattle.rules.specs.Testing.{resolves, position, piece, testPiece, readPiece, exceeds, decides, holds, replyOf}
+use Rattle.rules.specs.Testing.{resolves, position, piece, testPiece, readPiece, decides, holds, replyOf}
 use Rattle.rules.specs.Testing.{lengthSize}
 use Rattle.requests.specs.Cursors.{entryAt, testAt, bodyOf, bodyAt}
 use Rattle.requests.specs.Forms.{TableIn}
 use Rattle.requests.specs.Offsets.{resolvedOf}
-use Rattle.requests.proofs.CursorLaws.{position-below, count-below, entry-resolved}
+use Rattle.requests.proofs.CursorLaws.{entry-resolved}
 use Rattle.requests.proofs.FormLaws.{all-next, all-end, sum-next, times-next}
-use Rattle.replies.specs.Pieces.{piecesFrom, piecesIn, resolveFrom, exceedFrom, measuredOf}
+use Rattle.replies.specs.Pieces.{piecesFrom, piecesIn, resolveFrom, measuredOf}
 use Rattle.requests.specs.declared.cursors.Entry.{Entry}
 use Rattle.requests.specs.declared.cursors.TestEntry.{TestEntry}
 use Rattle.requests.specs.declared.forms.Table.{Table}
@@ -62,14 +61,6 @@ unfolding every readsFrom resolveFrom allFrom
 read-resolve zero p q size = refl
 read-resolve (suc n) p q size =
     ap (λ (r : Bool). resolves (entryOffset p q) size && r) (read-resolve n (p + entrySize) q size)
-
-pub read-exceeds : (n p : ℕ) (q d : List ℕ)
-    → anyOf (exceeds d) (readsFrom n p q) ≡ exceedFrom entrySize n p q (length d)
-unfolding anyOf exceeds readsFrom exceedFrom
-read-exceeds zero p q d = refl
-read-exceeds (suc n) p q d =
-    ap (cond (ltb (length d) (position (entryOffset p q) (length d) + entryCount p q)) true)
-    (read-exceeds n (p + entrySize) q d)
 
 -- ---- lengths
 pub length-pieces : (stride n p : ℕ) (q d : List ℕ) → length (piecesFrom stride n p q d) ≡ n
@@ -134,12 +125,6 @@ module _ (stride left p : ℕ) (q d : List ℕ) (h : 0 < left) where
   unfolding resolveFrom
   resolve-next = all-next stride left p h (λ k. resolves (entryOffset k q) (length d))
 
-  exceed-next : exceedFrom stride left p q (length d)
-      ≡ cond (ltb (length d) (position (entryOffset p q) (length d) + entryCount p q)) true
-      (exceedFrom stride (left - 1) (p + stride) q (length d))
-  unfolding exceedFrom
-  exceed-next = ap (λ (n : ℕ). exceedFrom stride n p q (length d)) one
-
   hold-next : (b : ℕ) → every (holds d) (testsFrom left p b q)
       ≡ (decides (entryOpcode p q)
       (order (piece d (entryOffset p q) (entryCount p q)) (take (entrySpecimen p q) (drop b q)))
@@ -159,10 +144,6 @@ module _ (stride left p : ℕ) (q d : List ℕ) (h : left ≤ 0) where
   resolve-end : resolveFrom stride left p q (length d) ≡ true
   unfolding resolveFrom
   resolve-end = all-end stride left p h (λ k. resolves (entryOffset k q) (length d))
-
-  exceed-end : exceedFrom stride left p q (length d) ≡ false
-  unfolding exceedFrom
-  exceed-end = ap (λ (n : ℕ). exceedFrom stride n p q (length d)) none-left
 
   hold-end : (b : ℕ) → every (holds d) (testsFrom left p b q) ≡ true
   unfolding every testsFrom
@@ -198,28 +179,17 @@ module _ {p stride : ℕ} {q d : List ℕ} {x : Entry} {r : Resolved} (E : Readi
   unfolding piece
   reading-piece = rw (reading-count, reading-position)
 
-  -- Position and length add up without wrapping.
-  pub reading-reach : Octets q → r .position + x .count < 2147483648 + 4294967296
-  reading-reach o =
-      omega (arith, reading-count, reading-position, position-below p q (length d), count-below p q o)
-
 -- ---- measuring
-either-assoc : (a b c : Bool) → cond (cond a true b) true c ≡ cond a true (cond b true c)
-either-assoc true b c = refl
-either-assoc false b c = refl
-
 -- What is left of the table t, with what has been measured so far.
 pub record Measuring (t : Table) (q d : List ℕ) (m : Measured) (at left : ℕ) : Type 0 where
   pub reaches : at + t .stride * left ≤ length q
   pub resolved : (m .resolves && resolveFrom (t .stride) left at q (length d))
       ≡ resolveFrom (t .stride) (t .count) (t .first .at) q (length d)
-  pub exceeded : cond (m .exceeds) true (exceedFrom (t .stride) left at q (length d))
-      ≡ exceedFrom (t .stride) (t .count) (t .first .at) q (length d)
   pub summed : m .length + length (replyOf (piecesFrom (t .stride) left at q d)) ≡ length (replyOf (piecesIn t q d))
 
 pub measuring-start : (t : Table) (q d : List ℕ) → TableIn q t
-    → Measuring t q d (record { resolves = true; exceeds = false; length = 0 }) (t .first .at) (t .count)
-measuring-start t q d h = record { reaches = h .inside; resolved = refl; exceeded = refl; summed = omega arith }
+    → Measuring t q d (record { resolves = true; length = 0 }) (t .first .at) (t .count)
+measuring-start t q d h = record { reaches = h .inside; resolved = refl; summed = omega arith }
 
 module _ {t : Table} {q d : List ℕ} {m : Measured} {at left : ℕ} (M : Measuring t q d m at left) where
   measuring-sum : (h : 0 < left)
@@ -243,23 +213,16 @@ module _ {t : Table} {q d : List ℕ} {m : Measured} {at left : ℕ} (M : Measur
     measuring-bound T l =
         omega (arith, measuring-sum h, measuring-piece, reply-most (t .stride) (t .count) (t .first .at) q d l, T .few)
 
-    pub measuring-next : (a b : Bool) → a ≡ (m .resolves && r .resolves)
-        → b ≡ cond (m .exceeds) true (ltb (length d) (r .position + x .count))
-        → Measuring t q d
-        (record { resolves = a; exceeds = b; length = m .length + (lengthSize + length s) }) (x .next .at)
+    pub measuring-next : (a : Bool) → a ≡ (m .resolves && r .resolves)
+        → Measuring t q d (record { resolves = a; length = m .length + (lengthSize + length s) }) (x .next .at)
         (left - 1)
-    measuring-next a b f g =
+    measuring-next a f =
         let y = resolveFrom (t .stride) (left - 1) (at + t .stride) q (length d) in
-        let z = exceedFrom (t .stride) (left - 1) (at + t .stride) q (length d) in
         rw (reading-next E) (record {
           reaches = omega (arith, M .reaches, times-next (t .stride) left at h);
           resolved =
               rw (f, reading-resolves E) (and-assoc (m .resolves) (resolves (entryOffset at q) (length d)) y)
               ∙ ap (λ (k : Bool). m .resolves && k) (sym (resolve-next (t .stride) left at q d h)) ∙ M .resolved;
-          exceeded =
-              rw (g, reading-position E, reading-count E)
-              (either-assoc (m .exceeds) (ltb (length d) (position (entryOffset at q) (length d) + entryCount at q)) z)
-              ∙ ap (cond (m .exceeds) true) (sym (exceed-next (t .stride) left at q d h)) ∙ M .exceeded;
           summed = rw measuring-piece (measuring-sum h);
         })
 
@@ -268,13 +231,10 @@ module _ {t : Table} {q d : List ℕ} {m : Measured} {at left : ℕ} (M : Measur
       let a : m .resolves ≡ resolveFrom (t .stride) (t .count) (t .first .at) q (length d) =
       sym (and-true (m .resolves))
       ∙ ap (λ (k : Bool). m .resolves && k) (sym (resolve-end (t .stride) left at q d h)) ∙ M .resolved in
-      let b : m .exceeds ≡ exceedFrom (t .stride) (t .count) (t .first .at) q (length d) =
-      sym (cond-true-false (m .exceeds))
-      ∙ ap (cond (m .exceeds) true) (sym (exceed-end (t .stride) left at q d h)) ∙ M .exceeded in
       let e : length (replyOf (piecesFrom (t .stride) left at q d)) ≡ 0 =
       ap (λ (ps : List (List ℕ)). length (replyOf ps)) (pieces-end (t .stride) left at q d h) ∙ reply-none in
       let c : m .length ≡ length (replyOf (piecesIn t q d)) = omega (arith, M .summed) in
-      rw (← a, ← b, ← c)
+      rw (← a, ← c)
 
 -- ---- writing
 -- The table, and the pieces right behind it.

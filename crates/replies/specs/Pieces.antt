@@ -1,12 +1,11 @@
 -- The pieces that the entries of a table ask for, entry by entry. Tests and reads begin alike, with offset and length,
 -- and differ in how far apart their entries stand.
 use Prim.Native.Nat.{ℕ, zero, suc, _+_}
-use mathlib.Core.Bool.{Bool, true, false, cond}
+use mathlib.Core.Bool.{Bool}
 use mathlib.Core.List.{List, [], _∷_}
 use lib.ListN.{length}
-use lib.Dec.{ltb}
 use Rattle.rules.specs.Requests.{entryOffset, entryCount, allFrom}
-use Rattle.rules.specs.Testing.{resolves, position, piece, replyOf}
+use Rattle.rules.specs.Testing.{resolves, piece, replyOf}
 use Rattle.requests.specs.declared.forms.Table.{Table}
 use Rattle.replies.specs.declared.pieces.Measured.{Measured}
 
@@ -18,19 +17,13 @@ piecesFrom stride (suc n) p q d = piece d (entryOffset p q) (entryCount p q) ∷
 abbrev pub piecesIn : Table → List ℕ → List ℕ → List (List ℕ)
 piecesIn t q d = piecesFrom (t .stride) (t .count) (t .first .at) q d
 
--- Every offset resolves on data of a size; some entry reaches past its end.
+-- Every offset resolves on data of a size.
 unfoldable pub resolveFrom : ℕ → ℕ → ℕ → List ℕ → ℕ → Bool
 resolveFrom stride n p q size = allFrom (λ k. resolves (entryOffset k q) size) stride n p
-
-unfoldable pub exceedFrom : ℕ → ℕ → ℕ → List ℕ → ℕ → Bool
-exceedFrom stride zero p q size = false
-exceedFrom stride (suc n) p q size =
-    cond (ltb size (position (entryOffset p q) size + entryCount p q)) true (exceedFrom stride n (p + stride) q size)
 
 -- What a table asks of d, in numbers.
 abbrev pub measuredOf : Table → List ℕ → List ℕ → Measured
 measuredOf t q d = record {
   resolves = resolveFrom (t .stride) (t .count) (t .first .at) q (length d);
-  exceeds = exceedFrom (t .stride) (t .count) (t .first .at) q (length d);
   length = length (replyOf (piecesIn t q d));
 }

@@ -6,18 +6,15 @@ ghost use Rattle.format.specs.Layout.{limit};
 ghost use Rattle.requests.specs.Forms.{TableIn};
 ghost use Rattle.replies.specs.Pieces.{measuredOf};
 use octets::choices::both;
-use octets::choices::either;
 use requests::forms::Table;
 use requests::offsets::resolve;
 
 // The width of a piece's length in a reply.
 pub const LENGTH_SIZE: usize = 4;
 
-// What a table asks, in numbers: whether every offset resolves, whether some entry reaches past the end of data, and
-// the length of the reply.
+// What a table asks, in numbers: whether every offset resolves, and the length of the reply.
 pub struct Measured {
     pub resolves: bool,
-    pub exceeds: bool,
     pub length: usize,
 }
 
@@ -45,20 +42,19 @@ pub fn measure(d: &[u8], q: &[u8], t: Table) -> Measured
     let mut left = t.count;
     let mut cursor = t.first;
     let mut resolves = true;
-    let mut exceeds = false;
     let mut length = 0;
     while 0 < left {
         let entry = cursor.entry(q, t.stride);
         let place = resolve(entry.offset, size);
         resolves = both(resolves, place.resolves);
-        exceeds = either(exceeds, size < place.position + entry.count);
-        length += LENGTH_SIZE + piece(d, place.position, entry.count).len();
+        let asked = entry.count;
+        let found = piece(d, place.position, asked).len();
+        length += LENGTH_SIZE + found;
         cursor = entry.next;
         left -= 1;
     }
     Measured {
         resolves: resolves,
-        exceeds: exceeds,
         length: length,
     }
 }

@@ -30,7 +30,8 @@ use Rattle.rules.specs.Claims.{Reported, Demand1, Demand1Create}
 use Rattle.octets.proofs.RowLaws.{clear}
 use Rattle.rules.proofs.RequestLaws.{kinds, request-proper}
 use Rattle.rules.proofs.OutcomeLaws.{outcome-formed, room-after, valid-after, answered-number}
-use Rattle.rules.proofs.NumberLaws.{broken-is, outcome-among, create-among, broken-among}
+use Rattle.rules.proofs.NumberLaws.{broken-is, outcome-among, create-among, broken-among, never-six}
+use Rattle.rules.proofs.NumberLaws.{create-never-six}
 use Rattle.rules.proofs.ReplyLaws.{done-replies, among-replies, unreplied, reply-fits, counted-front}
 use Rattle.rules.proofs.ReplyLaws.{uncounted, five-node, other-node, replied, lease-reply, lease-count}
 
@@ -131,7 +132,7 @@ module _ (c q r : List ℕ) where
   unfolding replyTo counted partsOf
   tests-reply k ts ws cut f = request-reply (testWrite k ts ws cut) f refl
 
-  reads-reply : (rs : List Read) → requestOf q ≡ some (read rs) → replies (outcome c q (length r)) ≡ true →
+  pub reads-reply : (rs : List Read) → requestOf q ≡ some (read rs) → replies (outcome c q (length r)) ≡ true →
       Reported c q r (replyOf (map (readPiece (dataOf c)) rs))
   unfolding replyTo counted partsOf
   reads-reply rs f = request-reply (read rs) f refl
@@ -172,6 +173,7 @@ module _ (c q r : List ℕ) where
       let n = answered-number c q r in
       record {
         number = rw n (outcome-among c q (length r));
+        never-six = λ e. never-six c q (length r) (sym n ∙ e);
         broken = λ f. rw n (broken-among c q (length r) f);
         refused = λ h. refused-container (λ e. h (n ∙ e));
         silent = λ h k. silent-reply (unreplied _ (λ e. h (n ∙ e)) (λ e. k (n ∙ e)));
@@ -224,6 +226,7 @@ module _ (c node enabler : List ℕ) where
   unfolding createAnswer
   demand-1-create = record {
     number = create-among c node enabler;
+    never-six = create-never-six c node enabler;
     no-node = refl;
     uncounted = refl;
     refused = not-created;

@@ -42,18 +42,17 @@ unfolding resolves resolve isSome
 not-resolves (pos k) n e = refl
 not-resolves (negsuc k) n e = absurd e
 
-pub tests-not : (ts : List Test) (n : ℕ) → every (λ t. resolves (t .offset) n) ts ≡ true →
-    Each (λ t. NotNegative (t .offset)) ts
-tests-not ts n e =
-    each-map (λ t. resolves (t .offset) n ≡ true) (λ t. NotNegative (t .offset)) (λ t. resolves-not (t .offset) n) ts
-    (every-each (λ t. resolves (t .offset) n) ts e)
+-- the same of all the offsets of a list
+module _ {A : Type 0} (at : A → ℤ) (xs : List A) (n : ℕ) where
+  pub offsets-not : every (λ x. resolves (at x) n) xs ≡ true → Each (λ x. NotNegative (at x)) xs
+  offsets-not e =
+      each-map (λ x. resolves (at x) n ≡ true) (λ x. NotNegative (at x)) (λ x. resolves-not (at x) n) xs
+      (every-each (λ x. resolves (at x) n) xs e)
 
-pub not-tests : (ts : List Test) (n : ℕ) → Each (λ t. NotNegative (t .offset)) ts →
-    every (λ t. resolves (t .offset) n) ts ≡ true
-not-tests ts n e =
-    each-every (λ t. resolves (t .offset) n) ts
-    (each-map (λ t. NotNegative (t .offset)) (λ t. resolves (t .offset) n ≡ true) (λ t. not-resolves (t .offset) n)
-    ts e)
+  pub not-offsets : Each (λ x. NotNegative (at x)) xs → every (λ x. resolves (at x) n) xs ≡ true
+  not-offsets e =
+      each-every (λ x. resolves (at x) n) xs
+      (each-map (λ x. NotNegative (at x)) (λ x. resolves (at x) n ≡ true) (λ x. not-resolves (at x) n) xs e)
 
 pub writes-not : (ws : List Write) (n : ℕ) → writesResolve ws n ≡ true → Each (λ w. NotNegative (w .offset)) ws
 unfolding writesResolve
@@ -87,7 +86,7 @@ module _ (c q : List ℕ) (n : ℕ) (w : wellFormed c ≡ true) (k : List ℕ) (
         cut = cut;
         formed = w;
         format = f;
-        test-offsets = tests-not ts s (o .0);
+        test-offsets = offsets-not (λ (t : Test). t .offset) ts s (o .0);
         write-offsets = writes-not ws s (o .1);
         matches = same-eq k (enablerOf c) (not-false _ (b .0));
         reply-fits = ltb-false _ _ (d .0);
@@ -101,13 +100,14 @@ accepts-rows : (c q : List ℕ) (n : ℕ) (a : Accepts c q n) →
 unfolding requestRows rows admitRows findRows roomRows replyTo after firstRow partsOf
 accepts-rows c q n a =
     let s : ℕ = length (dataOf c) in
-    let t : every (λ t. resolves (t .offset) s) (a .tests) ≡ true = not-tests (a .tests) s (a .test-offsets) in
+    let t : every (λ t. resolves (t .offset) s) (a .tests) ≡ true =
+    not-offsets (λ (t : Test). t .offset) (a .tests) s (a .test-offsets) in
     let w : writesResolve (a .writes) s ≡ true = not-writes (a .writes) s (a .write-offsets) in
     let e : same (a .enabler) (enablerOf c) ≡ true = rw (a .matches) (same-refl (enablerOf c)) in
     let h : every (holds (dataOf c)) (a .tests) ≡ true = each-every (holds (dataOf c)) (a .tests) (a .all-hold) in
     rw (t, w, e, le-ltb _ _ (a .reply-fits), h, le-ltb _ _ (a .result-fits))
 
-broken-three : (p : Parts) (n : ℕ) → firstRow (requestRows p none n) ≡ 0 → ⊥
+pub broken-three : (p : Parts) (n : ℕ) → firstRow (requestRows p none n) ≡ 0 → ⊥
 unfolding requestRows firstRow
 broken-three p n e = omega arith
 

@@ -35,7 +35,7 @@ rows-numbered p (testWrite k ts ws cut) n = (omega arith, (omega arith, (omega a
 rows-numbered p (add r) n = (omega arith, tt)
 rows-numbered p (renew t x) n = (omega arith, tt)
 rows-numbered p (cancel t) n = (omega arith, tt)
-rows-numbered p (read rs) n = (omega arith, (omega arith, (omega arith, tt)))
+rows-numbered p (read rs) n = (omega arith, (omega arith, tt))
 
 -- ---- parts with other data, and with other lease places
 pub bytes-kept : (p : Parts) (d : List ℕ) → Valid p → used (withBytes p d) ≤ p .room → Valid (withBytes p d)

@@ -11,4 +11,5 @@ pub mod ReplyLaws
 pub mod EdgeTable
 pub mod Demand1
 pub mod Demand2
+pub mod ShortReads
 pub mod Secrets

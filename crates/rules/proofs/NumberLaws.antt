@@ -1,9 +1,10 @@
 -- Every outcome is a number that the table has for the request's kind. Assumes nothing.
-use mathlib.Core.Path.{_≡_, refl}
-use mathlib.Core.Bool.{Bool, true, false, cond, not}
+use mathlib.Core.Path.{_≡_, refl, sym, _∙_}
+use mathlib.Core.Bool.{Bool, true, false, cond, not, false≢true}
 use mathlib.Core.List.{List, [], _∷_}
 use mathlib.Core.Option.{none}
 use Prim.Native.Nat.{ℕ}
+use lib.Dec.{eqb}
 use Rattle.format.specs.Container.{lengthAllowed, wellFormed}
 use Rattle.octets.specs.Lists.{anyOf}
 use Rattle.octets.specs.Facts.{Each, Among}
@@ -47,12 +48,32 @@ kind-among c q n (adds k o e) = rw (e, k) (firstRow-among (numbersFor 2) _ refl 
 kind-among c q n (renews k o e) = rw (e, k) (firstRow-among (numbersFor 3) _ refl (refl, (refl, (refl, tt))))
 kind-among c q n (cancels k o e) = rw (e, k) (firstRow-among (numbersFor 4) _ refl (refl, (refl, (refl, tt))))
 kind-among c q n (reads k o e) =
-    rw (e, k) (firstRow-among (numbersFor 5) _ refl (refl, (refl, (refl, (refl, (refl, tt))))))
+    rw (e, k) (firstRow-among (numbersFor 5) _ refl (refl, (refl, (refl, (refl, tt)))))
 
 pub outcome-among : (c q : List ℕ) (n : ℕ) → Among (outcome c q n) (numbersFor (kindOf q))
 outcome-among c q n = kind-among c q n (kinds q)
+
+absent : (n : ℕ) (b : Bool) (xs ys : List ℕ) → anyOf (eqb n) xs ≡ false → anyOf (eqb n) ys ≡ false →
+    anyOf (eqb n) (cond b xs ys) ≡ false
+absent n true xs ys h k = h
+absent n false xs ys h k = k
+
+-- no kind has row 6
+no-six : (k : ℕ) → anyOf (eqb 6) (numbersFor k) ≡ false
+unfolding numbersFor anyOf
+no-six k =
+    absent 6 (eqb k 1) _ _ refl
+    (absent 6 (eqb k 2) _ _ refl
+    (absent 6 (eqb k 3) _ _ refl (absent 6 (eqb k 4) _ _ refl (absent 6 (eqb k 5) _ _ refl refl))))
+
+pub never-six : (c q : List ℕ) (n : ℕ) → outcome c q n ≡ 6 → ⊥
+never-six c q n e = false≢true (sym (no-six (kindOf q)) ∙ (rw e at (outcome-among c q n)))
 
 -- create's table has rows 1, 3 and 12
 pub create-among : (c node enabler : List ℕ) → Among (createOutcome c node enabler) (0 ∷ 1 ∷ 3 ∷ 12 ∷ [])
 unfolding createOutcome anyOf
 create-among c node enabler = firstRow-among (0 ∷ 1 ∷ 3 ∷ 12 ∷ []) _ refl (refl, (refl, (refl, tt)))
+
+pub create-never-six : (c node enabler : List ℕ) → createOutcome c node enabler ≡ 6 → ⊥
+unfolding anyOf
+create-never-six c node enabler e = false≢true (rw e at (create-among c node enabler))

@@ -50,13 +50,12 @@ write-replies false true c d e n m h k = no-reply k
 write-replies false false true d e n m h k = no-reply k
 write-replies false false false d e n m h k = h refl
 
-read-replies : (a b c : Bool) (n m : ℕ) → (c ≡ false → m ≤ n) →
-    replies (firstRow (row 4 a ∷ row 6 b ∷ row 7 c ∷ [])) ≡ true → m ≤ n
+read-replies : (a b : Bool) (n m : ℕ) → (b ≡ false → m ≤ n) →
+    replies (firstRow (row 4 a ∷ row 7 b ∷ [])) ≡ true → m ≤ n
 unfolding replies firstRow
-read-replies true b c n m h k = no-reply k
-read-replies false true c n m h k = no-reply k
-read-replies false false true n m h k = no-reply k
-read-replies false false false n m h k = h refl
+read-replies true b n m h k = no-reply k
+read-replies false true n m h k = no-reply k
+read-replies false false n m h k = h refl
 
 pub reply-fits : (p : Parts) (r : Option Request) (n : ℕ) → replies (firstRow (requestRows p r n)) ≡ true →
     length (replyBytes p r) ≤ n
@@ -66,7 +65,7 @@ reply-fits p (some (testWrite k ts ws cut)) n e = write-replies _ _ _ _ _ n _ (�
 reply-fits p (some (add r)) n e = omega arith
 reply-fits p (some (renew t x)) n e = omega arith
 reply-fits p (some (cancel t)) n e = omega arith
-reply-fits p (some (read rs)) n e = read-replies _ _ _ n _ (λ f. ltb-false n _ f) e
+reply-fits p (some (read rs)) n e = read-replies _ _ n _ (λ f. ltb-false n _ f) e
 
 pub counted-front : (p : Parts) (q : Option Request) (n : ℕ) (r : List ℕ) → replies n ≡ true →
     drop (answerTo n p q .count) (put 0 (replyBytes p q) r) ≡ drop (answerTo n p q .count) r

@@ -1,8 +1,9 @@
--- What is claimed of the rules (demands 1 and 2; secrets stay in: docs/RULES.md, D1, D2, D5). Proved in proofs/.
-use Prim.Native.Nat.{ℕ, _≤_}
+-- What is claimed of the rules (demands 1 and 2, secrets stay in, short reads: docs/RULES.md, D1, D2, D5, D6). Proved
+-- in proofs/.
+use Prim.Native.Nat.{ℕ, _+_, _≤_, _<_}
 use mathlib.Core.Path.{_≡_}
 use mathlib.Core.Bool.{true, cond}
-use mathlib.Core.List.{List, [], _∷_, map}
+use mathlib.Core.List.{List, [], _∷_, _++_, map}
 use mathlib.Core.Option.{Option, none, some}
 use mathlib.Core.Logic.{_↔_}
 use lib.ListN.{length, take, drop}
@@ -12,7 +13,7 @@ use Rattle.octets.specs.Strings.{same}
 use Rattle.octets.specs.Moves.{put}
 use Rattle.format.specs.Container.{wellFormed}
 use Rattle.format.specs.Layout.{nodeOf, enablerOf, dataOf, leasesOf, secretSize}
-use Rattle.octets.specs.Facts.{Each, Among}
+use Rattle.octets.specs.Facts.{Octets, Each, Among}
 use Rattle.format.specs.Parts.{used, partsOf}
 use Rattle.rules.specs.Requests.{Test, Read, Write, testWrite, read, requestOf, kindOf, secretAt}
 use Rattle.rules.specs.Testing.{testPiece, readPiece, holds, replyOf}
@@ -29,7 +30,7 @@ numbersFor kind =
     (cond (eqb kind 2) (0 ∷ 10 ∷ 11 ∷ [])
     (cond (eqb kind 3) (0 ∷ 9 ∷ [])
     (cond (eqb kind 4) (0 ∷ 9 ∷ [])
-    (cond (eqb kind 5) (0 ∷ 4 ∷ 6 ∷ 7 ∷ [])
+    (cond (eqb kind 5) (0 ∷ 4 ∷ 7 ∷ [])
     []))))
 
 -- The call writes the reply bs to the front of the reply space, and counts it.
@@ -41,6 +42,8 @@ pub record Reported (c q r bs : List ℕ) : Type 0 where
 pub record Demand1 (c q r : List ℕ) : Type 0 where
   -- the call ends in a number that the table has for the request's kind
   pub number : Among (answered c q r .number) (numbersFor (kindOf q))
+  -- never in 6, which no row has
+  pub never-six : answered c q r .number ≡ 6 → ⊥
   -- in 1, 2 or 3 where the request breaks its format
   pub broken : requestOf q ≡ none → Among (answered c q r .number) (1 ∷ 2 ∷ 3 ∷ [])
   -- refused: no container byte changes
@@ -74,6 +77,8 @@ pub record Demand1 (c q r : List ℕ) : Type 0 where
 pub record Demand1Create (c node enabler : List ℕ) : Type 0 where
   -- the call ends in a number that the table has for create
   pub number : Among (createAnswer c node enabler .number) (0 ∷ 1 ∷ 3 ∷ 12 ∷ [])
+  -- never in 6, which no row has
+  pub never-six : createAnswer c node enabler .number ≡ 6 → ⊥
   -- the node id is zeros, and nothing is counted
   pub no-node : createAnswer c node enabler .node ≡ noNode
   pub uncounted : createAnswer c node enabler .count ≡ 0
@@ -147,3 +152,48 @@ pub record Secrets (b c q r : List ℕ) : Type 0 where
   pub of-write : SamePublic b c → kindOf q ≡ 1 →
       same (take secretSize (drop secretAt q)) (enablerOf b) ≡ same (take secretSize (drop secretAt q)) (enablerOf c) →
       (answered b q r .number ≡ 11 → ⊥) → (answered c q r .number ≡ 11 → ⊥) → SameReply b c q r
+
+-- The conditions of a read, each by itself, beside a reply space of n bytes (D6).
+pub record AcceptsRead (c q : List ℕ) (n : ℕ) : Type 0 where
+  pub reads : List Read
+  -- container and request are well formed
+  pub formed : wellFormed c ≡ true
+  pub format : requestOf q ≡ some (read reads)
+  -- no offset is negative
+  pub offsets : Each (λ x. NotNegative (x .offset)) reads
+  -- the reply fits, each piece as short as the data leaves it
+  pub reply-fits : length (replyOf (map (readPiece (dataOf c)) reads)) ≤ n
+
+-- What is then done (D6).
+pub record Returns (c q r : List ℕ) (a : AcceptsRead c q (length r)) : Type 0 where
+  -- the reply holds the piece of every read
+  pub reported : Reported c q r (replyOf (map (readPiece (dataOf c)) (a .reads)))
+  -- a container made of bytes stays as it was
+  pub kept : Octets c → containerAfter c q r ≡ c
+
+-- Short reads, of any bytes as container, request of kind 5 and reply space (D6).
+pub record ShortReads (c q r : List ℕ) : Type 0 where
+  -- a read is done exactly when the conditions hold
+  pub exactly : kindOf q ≡ 5 → (answered c q r .number ≡ 0) ↔ AcceptsRead c q (length r)
+  -- and then returns what they name
+  pub returns : (a : AcceptsRead c q (length r)) → Returns c q r a
+  -- on a good container a good request is refused with 4 exactly when some offset is negative
+  pub negative : (rs : List Read) → wellFormed c ≡ true → requestOf q ≡ some (read rs) →
+      (answered c q r .number ≡ 4) ↔ (Each (λ x. NotNegative (x .offset)) rs → ⊥)
+  -- and where none is, with 7 exactly when the pieces that exist do not fit
+  pub no-space : (rs : List Read) → wellFormed c ≡ true → requestOf q ≡ some (read rs) →
+      Each (λ x. NotNegative (x .offset)) rs →
+      (answered c q r .number ≡ 7) ↔ (length r < length (replyOf (map (readPiece (dataOf c)) rs)))
+
+-- What a read returns of any data d: the part that exists (T2, T6, D6).
+pub record ShortPiece (d : List ℕ) (x : Read) : Type 0 where
+  -- it stands in the data at its offset o, before what is not asked for
+  pub part : (o : ℕ) → x .offset ≡ pos o → take o d ++ (readPiece d x ++ drop (o + x .count) d) ≡ d
+  -- inside the data: as many bytes as asked for
+  pub inside : (o : ℕ) → x .offset ≡ pos o → o + x .count ≤ length d → length (readPiece d x) ≡ x .count
+  -- up to the end or across it: the data from o on
+  pub across : (o : ℕ) → x .offset ≡ pos o → length d ≤ o + x .count → readPiece d x ≡ drop o d
+  -- at the end or past it: nothing
+  pub past : (o : ℕ) → x .offset ≡ pos o → length d ≤ o → readPiece d x ≡ []
+  -- a test that asks alike looks at the same piece
+  pub alike : (t : Test) → t .offset ≡ x .offset → t .count ≡ x .count → testPiece d t ≡ readPiece d x

@@ -11,8 +11,8 @@ use Rattle.format.specs.Layout.{magic, renewalOf, nodeSize, leaseLimit, secretS
 use Rattle.format.specs.Container.{lengthAllowed, containerRows}
 use Rattle.format.specs.Parts.{Parts, used, partsOf, encode, fresh}
 use Rattle.rules.specs.Requests.{Request, testWrite, add, renew, cancel, read, requestOf}
-use Rattle.rules.specs.Testing.{resolves, testPiece, readPiece, exceeds, holds, replyOf}
-use Rattle.octets.specs.Lists.{every, anyOf, maybe}
+use Rattle.rules.specs.Testing.{resolves, testPiece, readPiece, holds, replyOf}
+use Rattle.octets.specs.Lists.{every, maybe}
 use Rattle.rules.specs.Writing.{writesResolve, rewritten}
 use Rattle.rules.specs.Leasing.{renewedBy, cancelledBy, added, renewed, cancelled, knows, present}
 use Rattle.octets.specs.Rows.{Row, firstRow, row}
@@ -51,7 +51,7 @@ admitRows p (renew t x) = []
 admitRows p (cancel t) = []
 admitRows p (read rs) = row 4 (not (every (λ r. resolves (r .offset) (length (p .bytes))) rs)) ∷ []
 
--- Rows 6 to 10: what it finds in the data, in a reply space of n bytes and among the leases (O6 to O10).
+-- Rows 7 to 10: what it finds in the data, in a reply space of n bytes and among the leases (O7 to O10).
 unfoldable pub findRows : Parts → Request → ℕ → List Row
 findRows p (testWrite k ts ws cut) n =
     row 7 (ltb n (length (replyTo p (testWrite k ts ws cut)))) ∷ row 8 (not (every (holds (p .bytes)) ts)) ∷ []
@@ -59,7 +59,7 @@ findRows p (add r) n =
     row 10 (leb leaseLimit (present (p .leases)) && not (knows (renewedBy (renewalOf r)) (p .leases))) ∷ []
 findRows p (renew t x) n = row 9 (not (knows (renewedBy t) (p .leases))) ∷ []
 findRows p (cancel t) n = row 9 (not (knows (cancelledBy t) (p .leases))) ∷ []
-findRows p (read rs) n = row 6 (anyOf (exceeds (p .bytes)) rs) ∷ row 7 (ltb n (length (replyTo p (read rs)))) ∷ []
+findRows p (read rs) n = row 7 (ltb n (length (replyTo p (read rs)))) ∷ []
 
 -- Row 11: the used length after the request would exceed the buffer (O11, W7).
 unfoldable pub roomRows : Parts → Request → List Row

@@ -1,10 +1,10 @@
 -- Offsets, pieces, tests and replies (docs/RULES.md, T1 to T6, R1).
-use Prim.Native.Nat.{ℕ, _+_}
+use Prim.Native.Nat.{ℕ}
 use mathlib.Core.Bool.{Bool, true, false, cond, not}
 use mathlib.Core.List.{List, _++_, map}
 use mathlib.Core.Option.{Option, none, some}
 use lib.ListN.{length, take, drop}
-use lib.Dec.{eqb, ltb}
+use lib.Dec.{eqb}
 use lib.IntN.{ℤ, pos, negsuc}
 use Rattle.octets.specs.Numbers.{digits}
 use Rattle.octets.specs.Strings.{order, join}
@@ -22,19 +22,16 @@ resolves o size = isSome (resolve o size)
 unfoldable pub position : ℤ → ℕ → ℕ
 position o size = orElse (resolve o size) 0
 
--- The data from an offset on, at most so many bytes, stopping at the end of data (T2).
+-- The data from an offset on, at most so many bytes, stopping at the end of data (T2, T6).
 unfoldable pub piece : List ℕ → ℤ → ℕ → List ℕ
 piece d o n = take n (drop (position o (length d)) d)
 
+-- A test and a read have their pieces alike.
 unfoldable pub testPiece : List ℕ → Test → List ℕ
 testPiece d t = piece d (t .offset) (t .count)
 
--- What a read returns, and whether its offset plus length exceeds the size, row 6 (T6).
 unfoldable pub readPiece : List ℕ → Read → List ℕ
 readPiece d r = piece d (r .offset) (r .count)
-
-unfoldable pub exceeds : List ℕ → Read → Bool
-exceeds d r = ltb (length d) (position (r .offset) (length d) + r .count)
 
 -- What the opcodes lt, le, eq, ne, ge, gt make of -1, 0 or 1 (T4).
 unfoldable pub below : ℤ → Bool

@@ -203,12 +203,6 @@ fn read(container: &Container, reads: &[Read], reply: &mut [u8]) -> Answer {
     if reads.iter().any(|read| read.offset < 0) {
         return Answer::refused(4);
     }
-    // 6: a read that ends past the end of data, as numbers and also for length 0.
-    let size = container.data.len() as u64;
-    let past_end = |read: &Read| read.offset as u64 + u64::from(read.length) > size;
-    if reads.iter().any(past_end) {
-        return Answer::refused(6);
-    }
     // 7: no space for the reply.
     let pieces: Vec<&[u8]> = reads
         .iter()

@@ -5,8 +5,8 @@ use crate::ffi::RawAnswer;
 use crate::requests::BuildError;
 use std::fmt;
 
-/// Why a call was refused: the outcomes 1 to 12 for containers and 21 to 29 for shares. Outcome 0, done, is no
-/// refusal.
+/// Why a call was refused: the outcomes 1 to 5 and 7 to 12 for containers and 21 to 29 for shares. Outcome 0, done, is
+/// no refusal, and no outcome has the number 6.
 ///
 /// Where several apply, the lowest number is given.
 ///
@@ -32,8 +32,6 @@ pub enum Reason {
     NegativeOffset = 4,
     /// 5: the write enabler differs.
     EnablerDiffers = 5,
-    /// 6: a read goes past the end of data.
-    ReadPastEnd = 6,
     /// 7: the reply space is shorter than the reply.
     ReplySpace = 7,
     /// 8: some test is false.
@@ -74,7 +72,6 @@ impl Reason {
         Reason::RequestFormat,
         Reason::NegativeOffset,
         Reason::EnablerDiffers,
-        Reason::ReadPastEnd,
         Reason::ReplySpace,
         Reason::TestFalse,
         Reason::NoSuchLease,
@@ -111,7 +108,6 @@ impl Reason {
             Reason::RequestFormat => "The request breaks its format.",
             Reason::NegativeOffset => "Some offset is negative.",
             Reason::EnablerDiffers => "The write enabler is not the container's.",
-            Reason::ReadPastEnd => "A read goes past the end of data.",
             Reason::ReplySpace => "The reply space is shorter than the reply.",
             Reason::TestFalse => "Some test is false, so nothing was written.",
             Reason::NoSuchLease => "No lease has the token.",

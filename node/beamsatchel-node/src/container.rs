@@ -161,10 +161,11 @@ impl<B: AsRef<[u8]>> Container<B> {
         Container { buffer }
     }
 
-    /// Reads pieces of the data. Each read must lie inside it.
+    /// Reads pieces of the data. Each is the part that exists: shorter where the data ends before, and empty from an
+    /// offset at or past the end.
     ///
     /// ```
-    /// use beamsatchel_node::{Container, NodeId, ReadData, Reason, TestAndWrite, WriteEnabler};
+    /// use beamsatchel_node::{Container, NodeId, ReadData, TestAndWrite, WriteEnabler};
     ///
     /// # fn main() -> Result<(), beamsatchel_node::Error> {
     /// let enabler = WriteEnabler::new([1; 32]);
@@ -172,13 +173,10 @@ impl<B: AsRef<[u8]>> Container<B> {
     /// let request = TestAndWrite::new(enabler).write(0, b"samples")?;
     /// assert!(slot.test_and_write(&request, &mut [])?.is_done());
     ///
-    /// let request = ReadData::new().read(0, 2)?.read(5, 2)?;
+    /// let request = ReadData::new().read(0, 2)?.read(5, 100)?.read(7, 100)?;
     /// let mut space = vec![0; request.reply_bound()];
     /// let reply = slot.read(&request, &mut space)?;
-    /// assert_eq!(reply.pieces().collect::<Vec<_>>(), [b"sa", b"es"]);
-    ///
-    /// let refusal = slot.read(&ReadData::new().read(6, 2)?, &mut space).unwrap_err();
-    /// assert_eq!(refusal.reason, Reason::ReadPastEnd);
+    /// assert_eq!(reply.pieces().collect::<Vec<_>>(), [&b"sa"[..], b"es", b""]);
     /// # Ok(())
     /// # }
     /// ```

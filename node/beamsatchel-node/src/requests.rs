@@ -289,7 +289,7 @@ impl CancelLease {
     }
 }
 
-/// Kind 5: up to 16 reads, each inside the data.
+/// Kind 5: up to 16 reads, each of the part of the data that exists.
 ///
 /// ```
 /// use beamsatchel_node::ReadData;
@@ -312,8 +312,8 @@ impl ReadData {
         ReadData::default()
     }
 
-    /// Adds a read of exactly `length` bytes at `offset`. A negative offset is well formed; the library answers it
-    /// with [`NegativeOffset`](crate::Reason::NegativeOffset).
+    /// Adds a read of the data at `offset`, at most `length` bytes and stopping at the end of data. A negative offset
+    /// is well formed; the library answers it with [`NegativeOffset`](crate::Reason::NegativeOffset).
     pub fn read(mut self, offset: i32, length: u32) -> Result<ReadData, BuildError> {
         if self.read_count() == MAX_ENTRIES {
             return Err(BuildError::TooManyEntries);

@@ -11,13 +11,12 @@ use beamsatchel_node::{
 use common::{fresh, ENABLER, NODE};
 
 /// Every reason with its number and what it says.
-const REASONS: [(Reason, u32, &str); 21] = [
+const REASONS: [(Reason, u32, &str); 20] = [
     (Reason::BufferLength, 1, "The container's buffer is not 472 to 65,536 bytes long."),
     (Reason::NotWellFormed, 2, "The buffer does not hold a well-formed container."),
     (Reason::RequestFormat, 3, "The request breaks its format."),
     (Reason::NegativeOffset, 4, "Some offset is negative."),
     (Reason::EnablerDiffers, 5, "The write enabler is not the container's."),
-    (Reason::ReadPastEnd, 6, "A read goes past the end of data."),
     (Reason::ReplySpace, 7, "The reply space is shorter than the reply."),
     (Reason::TestFalse, 8, "Some test is false, so nothing was written."),
     (Reason::NoSuchLease, 9, "No lease has the token."),
@@ -64,7 +63,7 @@ fn reasons_have_their_numbers_and_sentences() {
         assert_eq!(reason.to_string(), format!("{number}: {sentence}"));
     }
     // 257 is 1 in its last byte.
-    for number in [0, 13, 20, 30, 257, u32::MAX] {
+    for number in [0, 6, 13, 20, 30, 257, u32::MAX] {
         assert_eq!(Reason::from_number(number), None);
     }
 }
@@ -97,7 +96,7 @@ fn an_answer_is_the_record() {
 
 #[test]
 fn a_number_that_is_no_outcome_gives_no_answer() {
-    for number in [13, 20, 30, 256, u32::MAX] {
+    for number in [6, 13, 20, 30, 256, u32::MAX] {
         assert_eq!(answer(number, 0), None);
     }
 }
@@ -273,7 +272,6 @@ fn more_may_come() {
             | Reason::RequestFormat
             | Reason::NegativeOffset
             | Reason::EnablerDiffers
-            | Reason::ReadPastEnd
             | Reason::ReplySpace
             | Reason::TestFalse
             | Reason::NoSuchLease

@@ -191,6 +191,35 @@ fn a_read_gives_its_pieces() {
     assert!(slot.read(&ReadData::new(), &mut []).unwrap().is_empty());
 }
 
+/// Each piece is the part that exists, in a reply space that holds just those parts.
+#[test]
+fn a_read_is_short_at_the_end() {
+    let bytes = with_data(1000, b"abcdefgh");
+    let slot = Container::open(&bytes[..]).unwrap();
+    for (offset, length, piece) in [
+        (6, 2, &b"gh"[..]),
+        (6, 3, b"gh"),
+        (0, u32::MAX, b"abcdefgh"),
+        (8, 0, b""),
+        (8, 1, b""),
+        (9, 0, b""),
+        (9, 1, b""),
+        (i32::MAX, 1, b""),
+        (i32::MAX, u32::MAX, b""),
+    ] {
+        let request = ReadData::new().read(offset, length).unwrap();
+        let mut space = vec![0xA5; 4 + piece.len()];
+        let reply = slot.read(&request, &mut space).unwrap();
+        assert_eq!(reply.pieces().collect::<Vec<_>>(), [piece]);
+    }
+    let request = ReadData::new().read(5, 9).unwrap().read(20, 9).unwrap();
+    let mut space = [0xA5; 11];
+    let reply = slot.read(&request, &mut space).unwrap();
+    assert_eq!(reply.pieces().collect::<Vec<_>>(), [&b"fgh"[..], b""]);
+    let refused = slot.read(&request, &mut space[..10]);
+    assert_eq!(reason(refused), Reason::ReplySpace);
+}
+
 #[test]
 fn a_read_is_refused() {
     let bytes = with_data(1000, b"abcdefgh");
@@ -203,8 +232,10 @@ fn a_read_is_refused() {
         refused
     };
     assert_eq!(read(-1, 1, 5), Reason::NegativeOffset);
-    assert_eq!(read(7, 2, 6), Reason::ReadPastEnd);
+    assert_eq!(read(-1, 1, 0), Reason::NegativeOffset);
     assert_eq!(read(7, 1, 4), Reason::ReplySpace);
+    // The piece that exists has no space.
+    assert_eq!(read(6, 100, 5), Reason::ReplySpace);
     let mut bad = bytes.clone();
     bad[999] = 1;
     let refused = Container::adopt(&bad).read(&ReadData::new(), &mut []);

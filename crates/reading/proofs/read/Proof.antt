@@ -2,8 +2,7 @@
 use native.Mathlib.Omega.{arith}
 use borrow.Author.Tests.{not-true, not-false}
 use Rattle.format.proofs.KnownLaws.{lent, known-room, data-lent, lent-small}
-use Rattle.reading.proofs.ReadLaws.{Asked, reply-length, read-unresolved, read-exceeding, read-no-space}
-use Rattle.reading.proofs.ReadLaws.{read-done}
+use Rattle.reading.proofs.ReadLaws.{Asked, reply-length, read-unresolved, read-no-space, read-done}
 use borrow.Author.Needs.{needs}
 use Rattle.reading.proofs.read.Statement.{statement}
 use Rattle.reading.proofs.read.Tie as tie
@@ -46,41 +45,31 @@ answer-requires-2 : tie.Need-answer-requires-2
 answer-requires-2 c κs = search needs
 
 returns-2 : tie.Need-returns-2
-returns-2 c = read-exceeding (asked (c .before .before .before .before))
+returns-2 c = read-no-space (asked (c .before .before .before .before))
     (c .before .before .before .before .before .before .before .before .before .before .args .r .now) _
     (not-false _ (c .before .before .if1 .left)) (c .before .if2 .taken) (c .answer2 .ensures)
+
+write-reply-requires : tie.Need-write-reply-requires
+write-reply-requires c κs =
+    let s = c .before .before .before .before .before .before .before .before .before .before in (
+      s .pre .1 .table,
+      lent-small (s .pre .0) (c .before .before .before .before .before .before .data-end .ensures),
+      omega (arith, reply-length (asked (c .before .before .before .before)), c .before .if2 .left),
+    )
 
 answer-requires-3 : tie.Need-answer-requires-3
 answer-requires-3 c κs = search needs
 
-returns-3 : tie.Need-returns-3
-returns-3 c = read-no-space (asked (c .before .before .before .before .before))
-    (c .before .before .before .before .before .before .before .before .before .before .before .args .r .now) _
-    (not-false _ (c .before .before .before .if1 .left)) (c .before .before .if2 .left) (c .before .if3 .taken)
-    (c .answer3 .ensures)
-
-write-reply-requires : tie.Need-write-reply-requires
-write-reply-requires c κs =
-    let s = c .before .before .before .before .before .before .before .before .before .before .before in (
-      s .pre .1 .table,
-      lent-small (s .pre .0) (c .before .before .before .before .before .before .before .data-end .ensures),
-      omega (arith, reply-length (asked (c .before .before .before .before .before)), c .before .if3 .left),
-    )
-
-answer-requires-4 : tie.Need-answer-requires-4
-answer-requires-4 c κs = search needs
-
 same-length : tie.Need-same-length
 same-length c = search needs
 
-returns-4 : tie.Need-returns-4
-returns-4 c =
-    read-done (asked (c .before .before .before .before .before .before .before .before .before))
+returns-3 : tie.Need-returns-3
+returns-3 c =
+    read-done (asked (c .before .before .before .before .before .before .before .before))
     (c .before .before .before .before .before .before .before .before .before .before .before .before .before
-    .before .before .args .r .now) _
-    (not-false _ (c .before .before .before .before .before .before .before .if1 .left))
-    (c .before .before .before .before .before .before .if2 .left) _
-    (c .before .before .before .before .before .if3 .left) (c .answer4 .ensures)
+    .before .args .r .now) _
+    (not-false _ (c .before .before .before .before .before .before .if1 .left)) _
+    (c .before .before .before .before .before .if2 .left) (c .answer3 .ensures)
     (c .before .before .before .write-reply .ensures)
 
 pub read-spec : {M : Type 1} → statement M
@@ -96,9 +85,7 @@ read-spec =
     returns
     answer-requires-2
     returns-2
-    answer-requires-3
-    returns-3
     write-reply-requires
-    answer-requires-4
+    answer-requires-3
     same-length
-    returns-4)
+    returns-3)

@@ -80,11 +80,6 @@ pub fn read(buffer: &[u8], frame: Frame, request: &[u8], reply: &mut [u8]) -> An
     if reads.chunks_exact(READ).any(is_negative) {
         return Answer::refused(4);
     }
-    let past_end =
-        |read: &[u8]| u64::from(u32_at(read, 0)) + u64::from(u32_at(read, 4)) > frame.size as u64;
-    if reads.chunks_exact(READ).any(past_end) {
-        return Answer::refused(6);
-    }
     let data = frame.data(buffer);
     let reply_length = reply_length(data, reads, READ);
     if reply.len() < reply_length {

@@ -189,11 +189,12 @@ fn read(has: &dyn Fn(u32) -> bool, rng: &mut Rng) -> (Container, Request) {
     let container = small_container(rng);
     let size = container.data.len();
     let start = rng.below(size + 1);
+    // Inside the data or up to its end, and across the end or past it: neither is a flaw.
     let mut reads = vec![Read {
         offset: start as i32,
         length: rng.below(size - start + 1) as u32,
     }];
-    if has(6) {
+    if rng.chance(50) {
         let (offset, length) = rng.pick(&[
             (size as i32, 1),
             (size as i32 + 1, 0),

@@ -49,7 +49,7 @@ impl Call {
             Call::TestAndWrite => &[0, 1, 2, 3, 4, 5, 7, 8, 11],
             Call::Add => &[0, 1, 2, 3, 10, 11],
             Call::Renew | Call::Cancel => &[0, 1, 2, 3, 9],
-            Call::Read => &[0, 1, 2, 3, 4, 6, 7],
+            Call::Read => &[0, 1, 2, 3, 4, 7],
             Call::UnknownKind => &[1, 2, 3],
             Call::BareShare => &[0, 21, 22, 23, 24, 25, 26, 27, 28, 29],
             Call::ShareInContainer => &[0, 1, 2, 21, 22, 23, 24, 25, 26, 27, 28, 29],

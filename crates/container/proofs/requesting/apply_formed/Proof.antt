@@ -15,7 +15,7 @@ use Rattle.requests.proofs.CursorLaws.{bytes-length, body-in, body-is}
 use Rattle.leases.specs.Operations.{leaseDone, leaseContainer}
 use Rattle.rules.proofs.RefusalLaws.{broken}
 use Rattle.container.proofs.LeaseRequestLaws.{lease-results}
-use Rattle.reading.proofs.ReadLaws.{read-container}
+use Rattle.rules.proofs.ShortReads.{read-container}
 use borrow.Author.Needs.{needs}
 use Rattle.container.proofs.requesting.apply_formed.Statement.{statement}
 use Rattle.container.proofs.requesting.apply_formed.Tie as tie
@@ -243,13 +243,13 @@ returns-6 c =
     let d = c .before .before .read .ensures in (
       d .0,
       (
-        read-container (s .args .c .now) (s .args .q .now) (s .args .r .now) _ (s .pre .formed)
+        sym (read-container (s .args .c .now) (s .args .q .now) (s .args .r .now) _ (s .pre .formed)
             (λ i. omega (
               arith,
               c .before .before .before .before .before .before .before .before .before .before .before
                   .slice-known .given
                   i,
-            )) (sym (f .asks)),
+            )) (sym (f .asks))),
         d .1,
       ),
     )

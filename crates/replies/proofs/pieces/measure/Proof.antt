@@ -8,17 +8,17 @@ use Rattle.format.specs.Layout.{limit}
 use Rattle.rules.specs.Requests.{entryLimit}
 use Rattle.rules.specs.Testing.{lengthSize}
 use Rattle.replies.proofs.PieceLaws.{Measuring, Reading, measuring-end, measuring-next, measuring-start}
-use Rattle.replies.proofs.PieceLaws.{reading-reach, measuring-bound, reading}
+use Rattle.replies.proofs.PieceLaws.{measuring-bound, reading}
 use Rattle.requests.proofs.FormLaws.{times-next}
 use Rattle.replies.proofs.pieces.measure.Statement.{statement}
 use Rattle.replies.proofs.pieces.measure.Tie as tie
 
 abbrev Inv-loop : tie.InvT-loop
-Inv-loop d q t size left₀ cursor₀ resolves₀ exceeds₀ length₀ left cursor resolves exceeds length =
-    Measuring t q d (record { resolves = resolves; exceeds = exceeds; length = length }) (cursor .at) left
+Inv-loop d q t size left₀ cursor₀ resolves₀ length₀ left cursor resolves length =
+    Measuring t q d (record { resolves = resolves; length = length }) (cursor .at) left
 
 abbrev μ-loop : tie.MeasureT-loop
-μ-loop d q t size left₀ cursor₀ resolves₀ exceeds₀ length₀ left cursor resolves exceeds length = left
+μ-loop d q t size left₀ cursor₀ resolves₀ length₀ left cursor resolves length = left
 
 -- The request's bytes, and of these the entry with its place.
 octets : (c : tie.After-resolve Inv-loop μ-loop)
@@ -35,10 +35,10 @@ read c = reading (octets c) (c .before .before .entry .ensures) (c .resolve .ens
 
 -- The length with this piece stays small.
 bound : (c : tie.After-piece Inv-loop μ-loop)
-    → let l = c .before .before .before .before .before .before .before .before .before in
+    → let l = c .before .before .before .before .before .before in
     l .loop .length + (lengthSize + length (c .piece .result .now)) ≤ (lengthSize + limit) * entryLimit
 bound c =
-    let r = c .before .before .before .before .before in
+    let r = c .before .before in
     let t = r .before .before .before in
     let l = t .before in
     let h = l .before .before .before .before .pre in
@@ -60,12 +60,6 @@ resolve-requires c κs = search needs
 both-requires : tie.Need-both-requires Inv-loop μ-loop
 both-requires c κs = search needs
 
-add-either : tie.Need-add-either Inv-loop μ-loop
-add-either c = let r = c .before .before .before in omega (arith, reading-reach (read r) (octets r))
-
-either-requires : tie.Need-either-requires Inv-loop μ-loop
-either-requires c κs = search needs
-
 piece-requires : tie.Need-piece-requires Inv-loop μ-loop
 piece-requires c κs = search needs
 
@@ -84,11 +78,10 @@ loop-less c = search needs
 loop-again : tie.Need-loop-again Inv-loop μ-loop
 loop-again c =
     let p = c .before in
-    let b = p .before .before .before .before in
+    let b = p .before in
     let r = b .before in
     let t = r .before .before .before in
-    measuring-next (t .before .loop .inv) (t .loop-test .taken) (read r) _ (p .piece .ensures) _ _ (b .both .ensures)
-    (p .before .either .ensures)
+    measuring-next (t .before .loop .inv) (t .loop-test .taken) (read r) _ (p .piece .ensures) _ (b .both .ensures)
 
 returns : tie.Need-returns Inv-loop μ-loop
 returns c = measuring-end (c .before .loop .inv) (c .loop-test .left)
@@ -103,8 +96,6 @@ measure-spec =
     entry-requires
     resolve-requires
     both-requires
-    add-either
-    either-requires
     piece-requires
     add-length
     add-length-2

@@ -4,8 +4,8 @@ use crate::requests;
 use crate::rng::Rng;
 use beamsatchel_model::{Read, Request, Test, TestAndWrite};
 
-/// Reply space of exactly the reply, one byte less, one more and none, for 0 to 16 entries, on
-/// outcomes 0 and 8.
+/// Reply space of exactly the reply, one byte less, one more and none, for 0 to 16 entries inside the
+/// data, across its end and past it, on outcomes 0 and 8.
 pub fn run(rng: &mut Rng, checker: &mut Checker) {
     let data = rng.letters(100);
     let container = holding(700, data);
@@ -13,8 +13,8 @@ pub fn run(rng: &mut Rng, checker: &mut Checker) {
         for _ in 0..20 {
             let reads: Vec<Read> = (0..entries)
                 .map(|_| Read {
-                    offset: rng.below(50) as i32,
-                    length: rng.below(51) as u32,
+                    offset: rng.below(130) as i32,
+                    length: rng.below(80) as u32,
                 })
                 .collect();
             let tests = |opcode| TestAndWrite {

@@ -70,8 +70,7 @@ fn entries(rng: &mut Rng) -> usize {
 /// A test that mostly holds.
 fn test(rng: &mut Rng, container: &Container) -> Test {
     let size = container.data.len();
-    let offset = offset(rng, size);
-    let length = length(rng, size, offset);
+    let (offset, length) = extent(rng, size);
     let start = size.min(offset.max(0) as usize);
     let piece = &container.data[start..size.min(start + length as usize)];
     let specimen = specimen(rng, piece);
@@ -152,25 +151,17 @@ fn cut(rng: &mut Rng, container: &Container, writes: &[Write]) -> u32 {
 }
 
 fn reads(rng: &mut Rng, container: &Container) -> Vec<Read> {
-    let size = container.data.len();
-    let count = entries(rng);
-    (0..count)
-        .map(|_| {
-            if rng.chance(97) {
-                let offset = rng.below(size + 1);
-                Read {
-                    offset: offset as i32,
-                    length: rng.below(size - offset + 1) as u32,
-                }
-            } else {
-                let offset = offset(rng, size);
-                Read {
-                    offset,
-                    length: length(rng, size, offset),
-                }
-            }
-        })
-        .collect()
+    let read = |rng: &mut Rng| {
+        let (offset, length) = extent(rng, container.data.len());
+        Read { offset, length }
+    };
+    (0..entries(rng)).map(|_| read(rng)).collect()
+}
+
+/// Where a test or a read looks, and at how many bytes.
+fn extent(rng: &mut Rng, size: usize) -> (i32, u32) {
+    let offset = offset(rng, size);
+    (offset, length(rng, size, offset))
 }
 
 /// An offset inside the data or a little past it; seldom the largest, seldom negative.

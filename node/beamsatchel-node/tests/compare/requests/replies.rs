@@ -1,7 +1,7 @@
 use crate::rng::Rng;
 use beamsatchel_model::{Container, Request};
 
-/// The reply's length on a well-formed container, as far as entries lie inside the data.
+/// The reply's length on a well-formed container.
 pub fn reply_length(request: &Request, container: &Container) -> usize {
     let piece = |offset: i32, length: u32| {
         let rest = container.data.len().saturating_sub(offset.max(0) as usize);
