@@ -1,4 +1,4 @@
--- P1 to P10: the table holds, and the whole request of 62 bytes. Assumes nothing.
+-- P1 to P10 and P12 to P16: the tables hold, and the whole request of 62 bytes. Assumes nothing.
 use mathlib.Core.Path.{_≡_, refl, ap₂, _∙_}
 use mathlib.Core.Bool.{true}
 use mathlib.Core.List.{List, [], _∷_, map}
@@ -17,8 +17,9 @@ use Rattle.rules.specs.Requests.{Write, testWrite, entryOffset, entryCou
 use Rattle.rules.specs.Requests.{testEntryOk, allFrom, sumFrom, testsFrom, writesFrom, testCount, writeCount}
 use Rattle.rules.specs.Requests.{cutFlag, newLength, writesAt, specimensAt, newDataAt, testWriteEnd, cutOk}
 use Rattle.rules.specs.Requests.{testWriteOk, cutOf, testWriteOf, addOk, cancelOk, kindOf, byKind, requestOf}
+use Rattle.rules.specs.Requests.{readsFrom, readCount, readOk}
 use Rattle.rules.specs.Testing.{resolve, resolves, position, piece, testPiece, below, level, decides, holds}
-use Rattle.rules.specs.Testing.{replyOf}
+use Rattle.rules.specs.Testing.{replyOf, readPiece}
 use Rattle.octets.specs.Lists.{isSome, every, orElse, maybe}
 use Rattle.rules.specs.Writing.{padTo, writeAt, grow, placed, writesResolve, writeAll, cutTo, rewritten}
 use Rattle.rules.specs.Sizes.{sizeAll, cutSize, clip, resize}
@@ -29,7 +30,7 @@ use Rattle.rules.specs.Outcomes.{answerTo, answered, replyAfter, contain
 use Rattle.rules.specs.Outcomes.{createdContainer, admitRows, findRows}
 use Rattle.octets.specs.Rows.{firstRow}
 use Rattle.rules.specs.Edges.{enabler, bytesAt, testAndWrite, given, Case, Outcome, cases, results, request62}
-use Rattle.rules.specs.Edges.{empty, nines, EdgesHold, numbers, finally, usedIn, result}
+use Rattle.rules.specs.Edges.{empty, nines, EdgesHold, numbers, finally, usedIn, result, seen, reads, returned}
 use Rattle.rules.proofs.WriteLaws.{no-gap}
 
 -- a table is claimed in stretches
@@ -76,6 +77,7 @@ record Computed : Type 0 where
   whole-answer : answered empty request62 nines ≡ answerOf 0 noNode 4
   whole-reply : replyAfter empty request62 nines ≡ 0 ∷ 0 ∷ 0 ∷ 0 ∷ 9 ∷ 9 ∷ []
   whole-data : dataOf (containerAfter empty request62 nines) ≡ 0 ∷ 0 ∷ 0 ∷ 65 ∷ 66 ∷ []
+  short : map seen reads ≡ returned
 
 computed : Computed
 unfolding numberAfter number numberAt digits allZero same order join lengthAllowed countAt usedLength nodeOf enablerOf
@@ -87,7 +89,7 @@ unfolding numberAfter number numberAt digits allZero same order join lengthAllow
     placed writesResolve writeAll cutTo rewritten renewedBy cancelledBy vacant maybe firstOf placedIn added knows
     present withBytes withLeases after replyTo firstRow rows admitRows findRows roomRows requestRows outcome
     replies afterOf replyBytes counted answerTo answered replyAfter containerAfter createOutcome createdContainer
-    numbers finally usedIn result far
+    numbers finally usedIn result far readsFrom readCount readOk readPiece seen
 computed = record {
   p1 = refl;
   p1-long = λ long e. rw e refl;
@@ -99,6 +101,7 @@ computed = record {
   whole-answer = refl;
   whole-reply = refl;
   whole-data = refl;
+  short = refl;
 }
 
 -- THE TABLE'S CLAIM
@@ -115,4 +118,5 @@ edges = record {
   whole-answer = computed .whole-answer;
   whole-reply = computed .whole-reply;
   whole-data = computed .whole-data;
+  short = computed .short;
 }

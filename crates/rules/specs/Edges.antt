@@ -1,4 +1,5 @@
--- Numbers at the edges (docs/RULES.md, P1 to P10, P12), as one table: what create and then a few requests give.
+-- Numbers at the edges (docs/RULES.md, P1 to P10, P12 to P16), as tables: what create and then a few requests give, and
+-- what reads return.
 use Prim.Native.Nat.{ℕ}
 use mathlib.Core.Path.{_≡_}
 use mathlib.Core.Bool.{cond}
@@ -10,7 +11,7 @@ use Rattle.octets.specs.Strings.{join}
 use Rattle.format.specs.Layout.{usedLength, sizeOf, extrasOf, dataOf}
 use Rattle.format.specs.Parts.{encode, fresh}
 use Rattle.rules.specs.Outcomes.{outcome, answerOf, noNode, answered, containerAfter, replyAfter, createOutcome}
-use Rattle.rules.specs.Outcomes.{createdContainer}
+use Rattle.rules.specs.Outcomes.{createdContainer, withBytes}
 
 -- The enabler of every case, EE 32 times.
 abbrev pub enabler : List ℕ
@@ -174,7 +175,92 @@ empty = encode (fresh 500 node enabler)
 abbrev pub nines : List ℕ
 nines = replicate 6 9
 
--- The claim of the table.
+-- A read's entry of 8: where, and how many bytes.
+abbrev pub readEntry : ℕ → ℕ → List ℕ
+readEntry at n = digits 4 at ++ digits 4 n
+
+-- A read as bytes, of its entries.
+abbrev pub reading : List (List ℕ) → List ℕ
+reading es = (5 ∷ length es ∷ 0 ∷ 0 ∷ []) ++ join es
+
+-- A container of 500 bytes with ABCDE as data.
+abbrev pub lettered : List ℕ
+lettered = encode (withBytes (fresh 500 node enabler) (65 ∷ 66 ∷ 67 ∷ 68 ∷ 69 ∷ []))
+
+-- A read or a test on it, beside a reply space of so many bytes 9.
+pub record Look : Type 0 where
+  pub request : List ℕ
+  pub space : ℕ
+
+-- What it gives: the number, the count and the whole reply space.
+pub record Seen : Type 0 where
+  pub number : ℕ
+  pub count : ℕ
+  pub reply : List ℕ
+
+unfoldable pub seen : Look → Seen
+seen x =
+    let r : List ℕ = replicate (x .space) 9 in
+    record {
+      number = answered lettered (x .request) r .number;
+      count = answered lettered (x .request) r .count;
+      reply = replyAfter lettered (x .request) r;
+    }
+
+-- Short names: one read or several beside so many bytes, and a row of what they give.
+abbrev pub looks : List (List ℕ) → ℕ → Look
+looks es n = record { request = reading es; space = n }
+
+abbrev pub look : ℕ → ℕ → ℕ → Look
+look at count n = looks (readEntry at count ∷ []) n
+
+abbrev pub shows : ℕ → ℕ → List ℕ → Seen
+shows n count r = record { number = n; count = count; reply = r }
+
+-- The table of reads: P13 (across the end, by a read, by a read that stops there and by a test; at the end; past it; of
+-- length 0 at the end and past it), P14 (the greatest length at 0, the greatest offset, both), P15 (short pieces in a
+-- space that holds them exactly, and in one byte less), P16 (offset -1, alone and behind another read, and without any
+-- space).
+abbrev pub reads : List Look
+reads =
+    look 3 4 6
+    ∷ look 3 2 6
+    ∷ record { request = testAndWrite (check 3 4 3 (68 ∷ 69 ∷ []) ∷ []) [] 0 0; space = 6 }
+    ∷ look 5 1 6
+    ∷ look 6 1 6
+    ∷ look 5 0 6
+    ∷ look 6 0 6
+    ∷ look 0 4294967295 9
+    ∷ look 2147483647 1 4
+    ∷ look 2147483647 4294967295 4
+    ∷ looks (readEntry 3 4 ∷ readEntry 9 9 ∷ readEntry 0 2 ∷ []) 16
+    ∷ looks (readEntry 3 4 ∷ readEntry 9 9 ∷ readEntry 0 2 ∷ []) 15
+    ∷ look 4294967295 1 6
+    ∷ looks (readEntry 0 1 ∷ readEntry 4294967295 1 ∷ []) 10
+    ∷ looks (readEntry 0 1 ∷ readEntry 4294967295 1 ∷ []) 0
+    ∷ []
+
+-- What each gives, in the same order.
+abbrev pub returned : List Seen
+returned =
+    shows 0 6 (0 ∷ 0 ∷ 0 ∷ 2 ∷ 68 ∷ 69 ∷ [])
+    ∷ shows 0 6 (0 ∷ 0 ∷ 0 ∷ 2 ∷ 68 ∷ 69 ∷ [])
+    ∷ shows 0 6 (0 ∷ 0 ∷ 0 ∷ 2 ∷ 68 ∷ 69 ∷ [])
+    ∷ shows 0 4 (0 ∷ 0 ∷ 0 ∷ 0 ∷ 9 ∷ 9 ∷ [])
+    ∷ shows 0 4 (0 ∷ 0 ∷ 0 ∷ 0 ∷ 9 ∷ 9 ∷ [])
+    ∷ shows 0 4 (0 ∷ 0 ∷ 0 ∷ 0 ∷ 9 ∷ 9 ∷ [])
+    ∷ shows 0 4 (0 ∷ 0 ∷ 0 ∷ 0 ∷ 9 ∷ 9 ∷ [])
+    ∷ shows 0 9 (0 ∷ 0 ∷ 0 ∷ 5 ∷ 65 ∷ 66 ∷ 67 ∷ 68 ∷ 69 ∷ [])
+    ∷ shows 0 4 (0 ∷ 0 ∷ 0 ∷ 0 ∷ [])
+    ∷ shows 0 4 (0 ∷ 0 ∷ 0 ∷ 0 ∷ [])
+    ∷ shows 0 16 (0 ∷ 0 ∷ 0 ∷ 2 ∷ 0 ∷ 0 ∷ 0 ∷ 0 ∷ 0 ∷ 0 ∷ 0 ∷ 2 ∷ 68 ∷ 69 ∷ 65 ∷ 66 ∷ [])
+    ∷ shows 7 0 (replicate 15 9)
+    ∷ shows 4 0 nines
+    ∷ shows 4 0 (replicate 10 9)
+    ∷ shows 4 0 []
+    ∷ []
+
+-- The claim of the tables.
 pub record EdgesHold : Type 0 where
   -- every case gives its result
   pub table : (long : List ℕ) → length long ≡ 65537 → map result (cases long) ≡ results
@@ -185,3 +271,5 @@ pub record EdgesHold : Type 0 where
   pub whole-reply : replyAfter empty request62 nines ≡ 0 ∷ 0 ∷ 0 ∷ 0 ∷ 9 ∷ 9 ∷ []
   -- its write is made
   pub whole-data : dataOf (containerAfter empty request62 nines) ≡ 0 ∷ 0 ∷ 0 ∷ 65 ∷ 66 ∷ []
+  -- every row of the table of reads gives what stands beside it
+  pub short : map seen reads ≡ returned

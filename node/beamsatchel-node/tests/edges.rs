@@ -210,6 +210,72 @@ fn the_whole_request() {
     assert_eq!(data(&container), [0, 0, 0, 0x41, 0x42]);
 }
 
+/// A kind 5 request: offsets and lengths.
+fn reads(entries: &[(i32, u32)]) -> Vec<u8> {
+    let mut request = vec![5, entries.len() as u8, 0, 0];
+    for (offset, length) in entries {
+        request.extend(offset.to_be_bytes());
+        request.extend(length.to_be_bytes());
+    }
+    request
+}
+
+/// What a request gives on `ABCDE`, beside so many bytes 9: number, count and reply space.
+fn seen(request: &[u8], space: usize) -> (u32, u64, Vec<u8>) {
+    let mut container = fresh(500);
+    assert_eq!(number(&mut container, &write(&[(0, b"ABCDE")], None)), 0);
+    let before = container.clone();
+    let mut reply = vec![9; space];
+    let (number, count) = apply(&mut container, request, &mut reply);
+    assert_eq!(container, before);
+    (number, count, reply)
+}
+
+#[test]
+fn p13_reads_and_tests_stop_at_the_end() {
+    let across = (0, 6, b"\0\0\0\x02DE".to_vec());
+    assert_eq!(seen(&reads(&[(3, 4)]), 6), across);
+    assert_eq!(seen(&reads(&[(3, 2)]), 6), across);
+    let mut test = vec![1, 1, 0, 0, 0, 0, 0, 0];
+    test.extend(ENABLER);
+    test.extend([0, 0, 0, 3, 0, 0, 0, 4, 3, 0, 0, 2]);
+    test.extend(b"DE");
+    assert_eq!(seen(&test, 6), across);
+    let nothing = (0, 4, vec![0, 0, 0, 0, 9, 9]);
+    for read in [(5, 1), (6, 1), (5, 0), (6, 0)] {
+        assert_eq!(seen(&reads(&[read]), 6), nothing);
+    }
+}
+
+#[test]
+fn p14_the_greatest_length_and_offset() {
+    let all = (0, 9, b"\0\0\0\x05ABCDE".to_vec());
+    assert_eq!(seen(&reads(&[(0, 4_294_967_295)]), 9), all);
+    for length in [1, 4_294_967_295] {
+        assert_eq!(
+            seen(&reads(&[(2_147_483_647, length)]), 4),
+            (0, 4, vec![0; 4])
+        );
+    }
+}
+
+#[test]
+fn p15_reply_space_holds_the_short_pieces() {
+    let request = reads(&[(3, 4), (9, 9), (0, 2)]);
+    let pieces = b"\0\0\0\x02\0\0\0\0\0\0\0\x02DEAB".to_vec();
+    assert_eq!(seen(&request, 16), (0, 16, pieces));
+    assert_eq!(seen(&request, 15), (7, 0, vec![9; 15]));
+}
+
+#[test]
+fn p16_a_negative_offset_comes_first() {
+    assert_eq!(seen(&reads(&[(-1, 1)]), 6), (4, 0, vec![9; 6]));
+    for space in [10, 0] {
+        let request = reads(&[(0, 1), (-1, 1)]);
+        assert_eq!(seen(&request, space), (4, 0, vec![9; space]));
+    }
+}
+
 #[test]
 fn another_enabler_tells_the_node() {
     let mut request = write(&[], None);
