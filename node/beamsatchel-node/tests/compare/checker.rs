@@ -1,6 +1,7 @@
 //! Runs a case through model, library and the fast writing, and compares all that they give.
 
 use crate::case::Case;
+use crate::looks::Look;
 use crate::tally::{Call, Tally};
 use beamsatchel_model::{self as model, Request};
 use beamsatchel_node::ffi::{self, RawAnswer, RawShare};
@@ -40,8 +41,10 @@ impl Checker {
         compare_read(&before);
         demand_1(&before, &answer, case);
         compare_view(&before.container, &answer);
+        let call = Call::of_request(&case.request);
+        self.tally.outcome(call, answer.number, || show(&before));
         self.tally
-            .outcome(Call::of_request(&case.request), answer.number);
+            .looks(call, Look::of_case(&before, answer.number));
         answer
     }
 
@@ -58,7 +61,8 @@ impl Checker {
             hex(enabler),
             hex(&before)
         );
-        self.tally.outcome(Call::Create, answer.number);
+        self.tally
+            .outcome(Call::Create, answer.number, || hex(&before));
         answer
     }
 
@@ -72,7 +76,8 @@ impl Checker {
             "share differs\nmodel   {checked:?}\nlibrary {library:?}\nfast    {fast:?}\nshare {}",
             hex(share)
         );
-        self.tally.outcome(Call::BareShare, checked.number);
+        self.tally
+            .outcome(Call::BareShare, checked.number, || hex(share));
         checked.number
     }
 
@@ -86,7 +91,8 @@ impl Checker {
             "share differs\nmodel   {checked:?}\nlibrary {library:?}\nfast    {fast:?}\ncontainer {}",
             hex(container)
         );
-        self.tally.outcome(Call::ShareInContainer, checked.number);
+        let call = Call::ShareInContainer;
+        self.tally.outcome(call, checked.number, || hex(container));
         checked.number
     }
 }

@@ -2,7 +2,8 @@
 //! whole reply space.
 //!
 //! `BEAMSATCHEL_SEED` sets another seed, `BEAMSATCHEL_CASES` a longer run. The run prints how
-//! often each outcome and each pair of outcomes was met, and fails where a possible one was not.
+//! often each outcome and each pair of outcomes was met, and where tests and reads looked; it fails
+//! where a possible one was not met, and at once where an impossible outcome is.
 
 mod case;
 mod checker;
@@ -10,6 +11,7 @@ mod containers;
 mod creates;
 mod edges;
 mod histories;
+mod looks;
 mod pairs;
 mod requests;
 mod rng;

@@ -1,5 +1,6 @@
-//! How often each outcome, and each pair of outcomes, was met.
+//! How often each outcome, each pair of outcomes and each look at the data was met.
 
+use crate::looks::Look;
 use std::collections::BTreeMap;
 
 /// What was called; for apply, by the request's first byte.
@@ -28,6 +29,9 @@ impl Call {
         Call::BareShare,
         Call::ShareInContainer,
     ];
+
+    /// Those that look at the data and reply with pieces of it.
+    pub const LOOKING: [Call; 2] = [Call::TestAndWrite, Call::Read];
 
     /// The call that applies a request.
     pub fn of_request(request: &[u8]) -> Call {
@@ -81,16 +85,29 @@ pub struct Tally {
     pub cases: u64,
     outcomes: BTreeMap<(Call, u32), u64>,
     pairs: BTreeMap<(Call, u32, u32), u64>,
+    looks: BTreeMap<(Call, Look), u64>,
 }
 
 impl Tally {
-    pub fn outcome(&mut self, call: Call, number: u32) {
+    /// Counts an outcome, which must be a possible one; `case` tells of what.
+    pub fn outcome(&mut self, call: Call, number: u32, case: impl FnOnce() -> String) {
+        assert!(
+            call.outcomes().contains(&number),
+            "{call:?}: outcome {number} is not possible\n{}",
+            case()
+        );
         self.cases += 1;
         *self.outcomes.entry((call, number)).or_default() += 1;
     }
 
     pub fn pair(&mut self, call: Call, (low, high): (u32, u32)) {
         *self.pairs.entry((call, low, high)).or_default() += 1;
+    }
+
+    pub fn looks(&mut self, call: Call, looks: Vec<Look>) {
+        for look in looks {
+            *self.looks.entry((call, look)).or_default() += 1;
+        }
     }
 
     pub fn print(&self) {
@@ -118,10 +135,18 @@ impl Tally {
                 met.iter().min().unwrap_or(&0)
             );
         }
+        println!("\nwhere tests and reads looked, and which space short pieces had:");
+        for call in Call::LOOKING {
+            let met = self.looks.iter().filter(|((of, _), _)| *of == call);
+            let met: Vec<String> = met
+                .map(|((_, look), count)| format!("{look:?}: {count}"))
+                .collect();
+            println!("  {:>16}  {}", format!("{call:?}"), met.join(", "));
+        }
         println!();
     }
 
-    /// Every possible outcome and pair was met, and no other outcome.
+    /// Every possible outcome, pair and look was met.
     pub fn demand_all(&self) {
         for call in Call::ALL {
             for number in call.outcomes() {
@@ -136,9 +161,11 @@ impl Tally {
                 );
             }
         }
-        for (call, number) in self.outcomes.keys() {
-            let possible = call.outcomes().contains(number);
-            assert!(possible, "{call:?}: outcome {number} is not possible");
+        for call in Call::LOOKING {
+            for look in Look::ALL {
+                let met = self.looks.contains_key(&(call, look));
+                assert!(met, "{call:?}: {look:?} was never met");
+            }
         }
     }
 }
