@@ -142,8 +142,13 @@ impl fmt::Display for Reason {
 pub(crate) fn outcome(number: u32) -> Result<(), Reason> {
     match number {
         0 => Ok(()),
-        _ => Err(Reason::from_number(number).expect("the library's number is an outcome's")),
+        _ => Err(Reason::from_number(number).unwrap_or_else(|| no_outcome(number))),
     }
+}
+
+/// The library gives outcomes alone, so it is not this crate's.
+fn no_outcome(number: u32) -> ! {
+    panic!("the library answered {number}, which is no outcome: is the archive of another version?")
 }
 
 /// The answer record of one request.
@@ -186,7 +191,7 @@ impl Answer {
 
     /// The record that the library gave, whose numbers are outcomes'.
     pub(crate) fn of_library(raw: RawAnswer) -> Answer {
-        Answer::from_raw(raw).expect("the library's number is an outcome's")
+        Answer::from_raw(raw).unwrap_or_else(|| no_outcome(raw.number))
     }
 
     /// The count of a request that is done.

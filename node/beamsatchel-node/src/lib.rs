@@ -43,10 +43,11 @@
 //!
 //! # The archive
 //!
-//! The build links `target/staticlib/libbeamsatchel.a` of the repository. It runs `rt staticlib beamsatchel` to make it,
-//! at first and whenever a source has changed; cargo tells that by the files' times, as for sources in Rust. From
+//! The build links `target/staticlib/libbeamsatchel.a` of the repository. It runs `rt staticlib beamsatchel` to make
+//! it, at first and whenever a source has changed; cargo tells that by the files' times, as for sources in Rust. From
 //! nothing that takes minutes, in which cargo shows nothing. On a machine without the Rattle kit, `BEAMSATCHEL_ARCHIVE`
-//! names an archive that was made elsewhere; a relative path is relative to where cargo is started.
+//! names an archive that was made elsewhere, of the same version as this crate; a relative path is relative to where
+//! cargo is started.
 
 #![warn(missing_docs)]
 
