@@ -31,7 +31,7 @@ use Rattle.octets.proofs.RowLaws.{clear}
 use Rattle.rules.proofs.RequestLaws.{kinds, request-proper}
 use Rattle.rules.proofs.OutcomeLaws.{outcome-formed, room-after, valid-after, answered-number}
 use Rattle.rules.proofs.NumberLaws.{broken-is, outcome-among, create-among, broken-among, never-six}
-use Rattle.rules.proofs.NumberLaws.{create-never-six}
+use Rattle.rules.proofs.NumberLaws.{create-never-six, done-unbroken}
 use Rattle.rules.proofs.ReplyLaws.{done-replies, among-replies, unreplied, reply-fits, counted-front}
 use Rattle.rules.proofs.ReplyLaws.{uncounted, five-node, other-node, replied, lease-reply, lease-count}
 
@@ -148,8 +148,7 @@ module _ (c q r : List ℕ) where
       answered c q r .count ≡ present (leasesOf (containerAfter c q r))
   unfolding answered
   leases-count l e =
-      let h : requestOf q ≡ none → ⊥ =
-      λ f. broken-is (λ n. n ≡ 0 → ⊥) c q (length r) f (λ z. omega arith) (λ z. omega arith) (λ z. omega arith) e in
+      let h : requestOf q ≡ none → ⊥ = done-unbroken c q (length r) e in
       rw (e, done-container e, leases-encode _ (done-valid e)) (lease-count (partsOf c) q l h (kinds q))
 
   node-is : outcome c q (length r) ≡ 5 → answered c q r .node ≡ nodeOf c

@@ -3,7 +3,7 @@
 use mathlib.Core.Path.{_≡_, refl, sym, ap, _∙_}
 use mathlib.Core.Bool.{true, false≢true}
 use mathlib.Core.List.{List, [], _∷_}
-use mathlib.Core.Option.{Option, none, some}
+use mathlib.Core.Option.{Option, some}
 use Prim.Native.Nat.{ℕ}
 use native.Mathlib.Omega.{arith}
 use lib.ListN.{length}
@@ -18,7 +18,7 @@ use Rattle.octets.specs.Lists.{isSome, every, maybe}
 use Rattle.octets.specs.Facts.{Each}
 use Rattle.octets.proofs.ListLaws.{both, each-map, every-each, each-every}
 use Rattle.format.proofs.RoundTrip.{parts-encode}
-use Rattle.rules.specs.Requests.{Test, Write, testWrite, kindOf, testWriteOf, requestOf}
+use Rattle.rules.specs.Requests.{Test, Write, testWrite, kindOf, byKind, testWriteOk, testWriteOf, requestOf}
 use Rattle.rules.specs.Testing.{resolve, resolves, holds}
 use Rattle.rules.specs.Writing.{writesResolve, rewritten}
 use Rattle.rules.specs.Outcomes.{withBytes, after, afterOf, rows, roomRows, requestRows, replyTo}
@@ -26,7 +26,8 @@ use Rattle.rules.specs.Outcomes.{outcome, containerAfter, admitRows, fin
 use Rattle.octets.specs.Rows.{firstRow}
 use Rattle.rules.specs.Claims.{NotNegative, Accepts, Writes, Demand2}
 use Rattle.octets.proofs.RowLaws.{clear}
-use Rattle.rules.proofs.RequestLaws.{Kinds, broken, tests, adds, renews, cancels, reads, kinds}
+use Rattle.rules.proofs.RequestLaws.{of-kind}
+use Rattle.rules.proofs.NumberLaws.{done-unbroken}
 use Rattle.rules.proofs.OutcomeLaws.{outcome-formed, answered-number}
 use Rattle.rules.proofs.ReplyLaws.{done-replies}
 use Rattle.rules.proofs.Demand1.{replied-formed, done-valid, done-container, tests-reply}
@@ -107,31 +108,17 @@ accepts-rows c q n a =
     let h : every (holds (dataOf c)) (a .tests) ≡ true = each-every (holds (dataOf c)) (a .tests) (a .all-hold) in
     rw (t, w, e, le-ltb _ _ (a .reply-fits), h, le-ltb _ _ (a .result-fits))
 
-pub broken-three : (p : Parts) (n : ℕ) → firstRow (requestRows p none n) ≡ 0 → ⊥
-unfolding requestRows firstRow
-broken-three p n e = omega arith
-
 module _ (c q r : List ℕ) where
   accepts-done : Accepts c q (length r) → outcome c q (length r) ≡ 0
   accepts-done a = outcome-formed c q (length r) (a .formed) ∙ rw (a .format) (accepts-rows c q (length r) a)
 
   done-accepts : kindOf q ≡ 1 → outcome c q (length r) ≡ 0 → Accepts c q (length r)
-  unfolding testWriteOf
-  done-accepts k e = go (kinds q)
-    where
-      w : wellFormed c ≡ true
-      w = replied-formed c q (length r) (done-replies _ e)
-
-      z : firstRow (requestRows (partsOf c) (requestOf q) (length r)) ≡ 0
-      z = sym (outcome-formed c q (length r) w) ∙ e
-
-      go : Kinds q → Accepts c q (length r)
-      go (broken f) = absurd (broken-three (partsOf c) (length r) (rw f at z))
-      go (tests i l o f) = rows-accept c q (length r) w _ _ _ _ f (rw f at z)
-      go (adds i o f) = absurd (omega arith)
-      go (renews i o f) = absurd (omega arith)
-      go (cancels i o f) = absurd (omega arith)
-      go (reads i o f) = absurd (omega arith)
+  unfolding byKind testWriteOf
+  done-accepts k e =
+      let w : wellFormed c ≡ true = replied-formed c q (length r) (done-replies _ e) in
+      let f : requestOf q ≡ some (testWriteOf q) =
+      of-kind q (testWriteOk q) (testWriteOf q) (rw k refl) (done-unbroken c q (length r) e) in
+      rows-accept c q (length r) w _ _ _ _ f (rw f at (sym (outcome-formed c q (length r) w) ∙ e))
 
   -- the parts afterwards are those of the rules
   after-accepts : (a : Accepts c q (length r)) →

@@ -104,7 +104,7 @@ computed = record {
   short = refl;
 }
 
--- THE TABLE'S CLAIM
+-- THE TABLES' CLAIM
 pub edges : EdgesHold
 edges = record {
   table = λ long e.

@@ -4,6 +4,7 @@ use mathlib.Core.Bool.{Bool, true, false, cond, not, false≢true}
 use mathlib.Core.List.{List, [], _∷_}
 use mathlib.Core.Option.{none}
 use Prim.Native.Nat.{ℕ}
+use native.Mathlib.Omega.{arith}
 use lib.Dec.{eqb}
 use Rattle.format.specs.Container.{lengthAllowed, wellFormed}
 use Rattle.octets.specs.Lists.{anyOf}
@@ -39,6 +40,11 @@ pub broken-among : (c q : List ℕ) (n : ℕ) → requestOf q ≡ none → Among
 unfolding anyOf
 broken-among c q n e = broken-is (λ k. Among k (1 ∷ 2 ∷ 3 ∷ [])) c q n e refl refl refl
 
+-- so what is done keeps its format
+pub done-unbroken : (c q : List ℕ) (n : ℕ) → outcome c q n ≡ 0 → requestOf q ≡ none → ⊥
+done-unbroken c q n e f =
+    broken-is (λ k. k ≡ 0 → ⊥) c q n f (λ z. omega arith) (λ z. omega arith) (λ z. omega arith) e
+
 kind-among : (c q : List ℕ) (n : ℕ) → Kinds q → Among (outcome c q n) (numbersFor (kindOf q))
 unfolding outcome requestRows rows admitRows findRows roomRows numbersFor anyOf testWriteOf
 kind-among c q n (broken e) = broken-is (λ k. Among k (numbersFor (kindOf q))) c q n e refl refl refl
@@ -53,6 +59,7 @@ kind-among c q n (reads k o e) =
 pub outcome-among : (c q : List ℕ) (n : ℕ) → Among (outcome c q n) (numbersFor (kindOf q))
 outcome-among c q n = kind-among c q n (kinds q)
 
+-- what is in neither of two lists is not in the one that is chosen
 absent : (n : ℕ) (b : Bool) (xs ys : List ℕ) → anyOf (eqb n) xs ≡ false → anyOf (eqb n) ys ≡ false →
     anyOf (eqb n) (cond b xs ys) ≡ false
 absent n true xs ys h k = h

@@ -1,6 +1,6 @@
 -- What a request's bytes are read as. Assumes nothing.
 use mathlib.Core.Path.{_≡_, refl}
-use mathlib.Core.Bool.{Bool, true, false, _&&_, false≢true}
+use mathlib.Core.Bool.{Bool, true, false, cond, _&&_, false≢true}
 use mathlib.Core.List.{List}
 use mathlib.Core.Option.{Option, none, some}
 use Prim.Native.Nat.{ℕ, _+_, _≤_}
@@ -76,6 +76,17 @@ kinds q = short (leb (length q) requestLimit) refl
     short : (b : Bool) → leb (length q) requestLimit ≡ b → Kinds q
     short true l = by1 l (eqb (kindOf q) 1) refl
     short false l = broken (rw l)
+
+-- a request that keeps its format is what its kind reads
+pub of-kind : (q : List ℕ) (ok : Bool) (x : Request) → byKind (kindOf q) q ≡ cond ok (some x) none →
+    (requestOf q ≡ none → ⊥) → requestOf q ≡ some x
+unfolding requestOf
+of-kind q ok x e h = rw e (go (leb (length q) requestLimit) ok (rw e at h))
+  where
+    go : (b k : Bool) → (cond b (cond k (some x) none) none ≡ none → ⊥) → cond b (cond k (some x) none) none ≡ some x
+    go true true h = refl
+    go true false h = absurd (h refl)
+    go false k h = absurd (h refl)
 
 -- an added record has the size of a lease place, and an owner
 pub add-proper : (q : List ℕ) → addOk q ≡ true → Proper (add (drop 1 q))

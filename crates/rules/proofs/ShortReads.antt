@@ -20,16 +20,17 @@ use Rattle.format.specs.Container.{wellFormed}
 use Rattle.format.specs.Layout.{dataOf}
 use Rattle.format.specs.Parts.{partsOf, encode}
 use Rattle.format.proofs.RoundTrip.{encode-parts}
-use Rattle.rules.specs.Requests.{Read, read, kindOf, requestOf}
+use Rattle.rules.specs.Requests.{Read, read, kindOf, requestOf, byKind, readOk, readsFrom, readCount, readsAt}
 use Rattle.rules.specs.Testing.{resolve, resolves, position, piece, testPiece, readPiece, replyOf}
 use Rattle.rules.specs.Outcomes.{after, afterOf, rows, roomRows, requestRows, replyTo, outcome, containerAfter}
 use Rattle.rules.specs.Outcomes.{admitRows, findRows}
 use Rattle.rules.specs.Claims.{NotNegative, AcceptsRead, ShortReads, ShortPiece}
-use Rattle.rules.proofs.RequestLaws.{Kinds, broken, tests, adds, renews, cancels, reads, kinds}
+use Rattle.rules.proofs.RequestLaws.{of-kind}
 use Rattle.rules.proofs.OutcomeLaws.{outcome-formed, answered-number}
 use Rattle.rules.proofs.ReplyLaws.{done-replies}
 use Rattle.rules.proofs.Demand1.{replied-formed, reads-reply}
-use Rattle.rules.proofs.Demand2.{offsets-not, not-offsets, broken-three}
+use Rattle.rules.proofs.NumberLaws.{done-unbroken}
+use Rattle.rules.proofs.Demand2.{offsets-not, not-offsets}
 
 -- ---- the rows of a read
 -- Whether every offset of the reads resolves on the data of c.
@@ -58,33 +59,21 @@ read-container c q r rs w o is = rw is (go (eqb (outcome c q (length r)) 0))
 -- ---- exactly when
 module _ (c q r : List ℕ) where
   done-read : kindOf q ≡ 5 → outcome c q (length r) ≡ 0 → AcceptsRead c q (length r)
-  done-read k e = go (kinds q)
-    where
-      w : wellFormed c ≡ true
-      w = replied-formed c q (length r) (done-replies _ e)
-
-      z : firstRow (requestRows (partsOf c) (requestOf q) (length r)) ≡ 0
-      z = sym (outcome-formed c q (length r) w) ∙ e
-
-      rows-read : (rs : List Read) → requestOf q ≡ some (read rs) → AcceptsRead c q (length r)
-      rows-read rs f =
-          let a = clear 4 _ _ (omega arith) (sym (read-outcome c q (length r) rs w f) ∙ e) in
-          let b = clear 7 _ _ (omega arith) (a .1) in
-          record {
-            reads = rs;
-            formed = w;
-            format = f;
-            offsets = offsets-not (λ (x : Read). x .offset) rs (length (dataOf c)) (not-false _ (a .0));
-            reply-fits = ltb-false _ _ (b .0);
-          }
-
-      go : Kinds q → AcceptsRead c q (length r)
-      go (broken f) = absurd (broken-three (partsOf c) (length r) (rw f at z))
-      go (tests i l o f) = absurd (omega arith)
-      go (adds i o f) = absurd (omega arith)
-      go (renews i o f) = absurd (omega arith)
-      go (cancels i o f) = absurd (omega arith)
-      go (reads i o f) = rows-read _ f
+  unfolding byKind
+  done-read k e =
+      let rs : List Read = readsFrom (readCount q) readsAt q in
+      let w : wellFormed c ≡ true = replied-formed c q (length r) (done-replies _ e) in
+      let f : requestOf q ≡ some (read rs) =
+      of-kind q (readOk q) (read rs) (rw k refl) (done-unbroken c q (length r) e) in
+      let a = clear 4 _ _ (omega arith) (sym (read-outcome c q (length r) rs w f) ∙ e) in
+      let b = clear 7 _ _ (omega arith) (a .1) in
+      record {
+        reads = rs;
+        formed = w;
+        format = f;
+        offsets = offsets-not (λ (x : Read). x .offset) rs (length (dataOf c)) (not-false _ (a .0));
+        reply-fits = ltb-false _ _ (b .0);
+      }
 
   -- with row 4 out of the way, row 7 decides
   sevens : (rs : List Read) → wellFormed c ≡ true → requestOf q ≡ some (read rs) →
