@@ -146,7 +146,7 @@ pub(crate) fn outcome(number: u32) -> Result<(), Reason> {
     }
 }
 
-/// The library gives outcomes alone, so it is not this crate's.
+/// This crate's library gives outcomes alone, so another one is linked.
 fn no_outcome(number: u32) -> ! {
     panic!("the library answered {number}, which is no outcome: is the archive of another version?")
 }
