@@ -9,7 +9,7 @@ use Rattle.octets.specs.Strings.{allZero, same}
 use Rattle.octets.specs.Lists.{every}
 use Rattle.octets.specs.Rows.{Row, row}
 use Rattle.format.specs.Layout.{magic, nodeAt, sizeWidth, fixedPlaces, extraLimit, offsetAt, countAt}
-use Rattle.format.specs.Layout.{usedLength, least, limit, sizeOf, extrasOf, leasesOf, ownerOf}
+use Rattle.format.specs.Layout.{least, limit, sizeOf, extrasOf, usedEnd, leasesOf, ownerOf}
 
 -- Buffer length is 472 to 65,536 (F1).
 unfoldable pub lengthAllowed : List ℕ → Bool
@@ -35,14 +35,14 @@ fieldsOk c =
     same (take nodeAt c) magic
     && (eqb (numberAt sizeWidth offsetAt c) (countAt (sizeOf c))
     && (leb (extrasOf c) extraLimit
-    && leb (usedLength (sizeOf c) (extrasOf c)) (length c)))
+    && leb (usedEnd c) (length c)))
 
 -- What the fields lay out is in order: every record, the last extra, zeros after the used end (F6 to F8).
 unfoldable pub contentsOk : List ℕ → Bool
 contentsOk c =
     every recordOk (leasesOf c)
     && (lastHeld (drop fixedPlaces (leasesOf c))
-    && allZero (drop (usedLength (sizeOf c) (extrasOf c)) c))
+    && allZero (drop (usedEnd c) c))
 
 -- Well formed (F1 to F9).
 unfoldable pub wellFormed : List ℕ → Bool

@@ -102,6 +102,13 @@ dataOf c = take (sizeOf c) (drop dataAt c)
 unfoldable pub extrasOf : List ℕ → ℕ
 extrasOf c = numberAt countSize (countAt (sizeOf c)) c
 
+-- Where the data of a container ends, and where its used bytes end (C7, C12).
+abbrev pub dataEnd : List ℕ → ℕ
+dataEnd c = dataAt + sizeOf c
+
+abbrev pub usedEnd : List ℕ → ℕ
+usedEnd c = usedLength (sizeOf c) (extrasOf c)
+
 -- The n lease records from p on (C6, C9).
 unfoldable pub records : ℕ → ℕ → List ℕ → List (List ℕ)
 records zero p c = []

@@ -11,7 +11,7 @@ use Rattle.format.specs.Layout.{dataOf}
 use Rattle.octets.specs.Facts.{Each}
 use Rattle.rules.specs.Requests.{Test, Write, testWrite, requestOf}
 use Rattle.rules.specs.Testing.{piece}
-use Rattle.rules.specs.Changes.{covers, Change, wrote, cutAt, byteAfter}
+use Rattle.rules.specs.Changes.{Change, writesAt, byteAfter}
 use Rattle.rules.specs.Outcomes.{createOutcome, createdContainer}
 use Rattle.histories.specs.Runs.{Call, hears, leaves, answers, final}
 use Rattle.histories.specs.Accepted.{accepted}
@@ -30,8 +30,7 @@ laterChanges h c = accepted h (answers hears leaves h c) (length (dataOf c))
 
 -- A change that writes no byte at place i.
 abbrev pub Untouched : ℕ → Change → Type 0
-Untouched i (wrote at bs) = covers at (length bs) i ≡ false
-Untouched i (cutAt m) = Unit {0}
+Untouched i o = writesAt i o ≡ false
 
 -- The container after the calls `before` and x on container bytes c, and after the calls `after` too.
 abbrev pub middle : List ℕ → List Call → Call → List ℕ

@@ -1,18 +1,18 @@
 -- Changes carried out on data, by length and by position, and what a request makes of the data. Assumes nothing.
 use mathlib.Core.Path.{_≡_, refl, sym, ap, _∙_}
-use mathlib.Core.Bool.{Bool, true, false, cond}
+use mathlib.Core.Bool.{Bool, true, false, cond, true≢false}
 use mathlib.Core.List.{List, [], _∷_, _++_}
 use mathlib.Core.Option.{Option, none, some}
-use Prim.Native.Nat.{ℕ, _-_}
+use Prim.Native.Nat.{ℕ, _-_, _<_}
 use lib.ListN.{length, getD, take, length-take}
 use lib.Seq.{getD-take}
 use lib.Dec.{leb}
 use borrow.Author.Tests.{leb-true, leb-false}
 use Rattle.rules.specs.Writing.{writeAt, Placed, writeAll, cutTo, rewritten, placed}
 use Rattle.rules.specs.Changes.{covers, Change, wrote, cutAt, sizeBy, sizeAfter, says, cutChange, writeChanges}
-use Rattle.rules.specs.Changes.{changesOf}
-use Rattle.rules.proofs.WriteLaws.{length-write, at-write}
-use Rattle.octets.specs.Lists.{orElse, maybe}
+use Rattle.rules.specs.Changes.{writesAt, changesOf}
+use Rattle.rules.proofs.WriteLaws.{length-write, at-write, over, overAll, at-writeAll, at-cutTo}
+use Rattle.octets.specs.Lists.{anyOf, orElse, maybe}
 use Rattle.octets.specs.Last.{lastSaid}
 use Rattle.rules.specs.Outcomes.{afterOf, after, withBytes, withLeases}
 use Rattle.octets.proofs.ListLaws.{orElse-newer, at-take-past}
@@ -36,6 +36,10 @@ pub length-performAll : (os : List Change) (d : List ℕ) → length (performAll
 unfolding performAll sizeAfter
 length-performAll [] d = refl
 length-performAll (o ∷ os) d = length-performAll os (perform o d) ∙ rw length-perform
+
+neither : (a b : Bool) → cond a true b ≡ false → (a ≡ false) × (b ≡ false)
+neither true b e = absurd (true≢false e)
+neither false b e = (refl, e)
 
 said-cond : (b : Bool) (x v : ℕ) → orElse (cond b (some x) none) v ≡ cond b x v
 unfolding orElse
@@ -72,6 +76,20 @@ unfolding performAll writeChanges cutChange writeAll cutTo perform
 perform-changes [] none d = refl
 perform-changes [] (some n) d = refl
 perform-changes (w ∷ ws) c d = perform-changes ws c (writeAt d (w .at) (w .bytes))
+
+-- a position of the data afterwards that no write covers has its old byte
+over-unwritten : (ws : List Placed) (os : List Change) (i v : ℕ) → anyOf (writesAt i) (writeChanges ws os) ≡ false
+    → overAll ws i v ≡ v
+unfolding anyOf writeChanges overAll over
+over-unwritten [] os i v h = refl
+over-unwritten (w ∷ ws) os i v h =
+    let n = neither (covers (w .at) (length (w .bytes)) i) (anyOf (writesAt i) (writeChanges ws os)) h in
+    rw (n .0) (over-unwritten ws os i v (n .1))
+
+pub at-unwritten : (ws : List Placed) (c : Option ℕ) (d : List ℕ) (i : ℕ) → i < length (cutTo c (writeAll ws d))
+    → anyOf (writesAt i) (writeChanges ws (cutChange c)) ≡ false → getD (cutTo c (writeAll ws d)) i 0 ≡ getD d i 0
+at-unwritten ws c d i h u =
+    at-cutTo c (writeAll ws d) i h ∙ at-writeAll ws d i ∙ over-unwritten ws (cutChange c) i (getD d i 0) u
 
 pub after-bytes : (p : Parts) (r : Option Request) → afterOf p r .bytes
     ≡ performAll (changesOf r (length (p .bytes))) (p .bytes)

@@ -13,7 +13,7 @@ use Rattle.octets.specs.Strings.{same}
 use Rattle.octets.proofs.StringLaws.{same-eq, same-refl}
 use Rattle.format.specs.Container.{wellFormed}
 use Rattle.format.specs.Layout.{enablerOf, dataOf}
-use Rattle.format.specs.Parts.{Parts, partsOf}
+use Rattle.format.specs.Parts.{Parts, partsOf, encode}
 use Rattle.octets.specs.Lists.{isSome, every, maybe}
 use Rattle.octets.specs.Facts.{Each}
 use Rattle.octets.proofs.ListLaws.{both, each-map, every-each, each-every}
@@ -125,6 +125,10 @@ module _ (c q r : List ℕ) where
       afterOf (partsOf c) (requestOf q) ≡ withBytes (partsOf c) (rewritten (a .writes) (a .cut) (dataOf c))
   unfolding afterOf maybe after partsOf
   after-accepts a = rw (a .format)
+
+  pub done-encoded : (a : Accepts c q (length r)) →
+      containerAfter c q r ≡ encode (withBytes (partsOf c) (rewritten (a .writes) (a .cut) (dataOf c)))
+  done-encoded a = done-container c q r (accepts-done a) ∙ ap encode (after-accepts a)
 
   done-writes : (a : Accepts c q (length r)) → Writes c q r a
   unfolding withBytes partsOf

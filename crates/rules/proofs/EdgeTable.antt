@@ -1,4 +1,4 @@
--- P1 to P10 and P12 to P16: the tables hold, and the whole request of 62 bytes. Assumes nothing.
+-- P1 to P10 and P12 to P20: the tables hold, and the whole request of 62 bytes. Assumes nothing.
 use mathlib.Core.Path.{_≡_, refl, ap₂, _∙_}
 use mathlib.Core.Bool.{true}
 use mathlib.Core.List.{List, [], _∷_, map}
@@ -20,7 +20,7 @@ use Rattle.rules.specs.Requests.{testWriteOk, cutOf, testWriteOf, addOk,
 use Rattle.rules.specs.Requests.{readsFrom, readCount, readOk}
 use Rattle.rules.specs.Testing.{resolve, resolves, position, piece, testPiece, below, level, decides, holds}
 use Rattle.rules.specs.Testing.{replyOf, readPiece}
-use Rattle.octets.specs.Lists.{isSome, every, orElse, maybe}
+use Rattle.octets.specs.Lists.{isSome, every, anyOf, orElse, maybe}
 use Rattle.rules.specs.Writing.{padTo, writeAt, grow, placed, writesResolve, writeAll, cutTo, rewritten}
 use Rattle.rules.specs.Sizes.{sizeAll, cutSize, clip, resize}
 use Rattle.rules.specs.Leasing.{renewedBy, cancelledBy, vacant, firstOf, added, knows, present, placedIn}
@@ -30,10 +30,13 @@ use Rattle.rules.specs.Outcomes.{answerTo, answered, replyAfter, contain
 use Rattle.rules.specs.Outcomes.{createdContainer, admitRows, findRows}
 use Rattle.octets.specs.Rows.{firstRow}
 use Rattle.rules.specs.Edges.{enabler, bytesAt, testAndWrite, given, Case, Outcome, cases, results, request62}
-use Rattle.rules.specs.Edges.{empty, nines, EdgesHold, numbers, finally, usedIn, result, seen, reads, returned}
+use Rattle.rules.specs.Edges.{empty, nines, EdgesHold, numbers, finally, result, seen, reads, returned}
+use Rattle.rules.specs.Edges.{leased, passing, differences, touch, rewrites, touched}
+use Rattle.rules.specs.Changes.{covers, cutChange, writeChanges, changesOf}
+use Rattle.rules.specs.Stretch.{inFields, inWritten, stretchFrom, stretchTo}
 use Rattle.rules.proofs.WriteLaws.{no-gap}
 
--- a table is claimed in stretches
+-- a table is claimed piece by piece
 pieces : (n : ℕ) (xs : List Case) (ys : List Outcome) →
     map result (take n xs) ≡ take n ys → map result (drop n xs) ≡ drop n ys → map result xs ≡ ys
 pieces zero xs ys e f = f
@@ -78,6 +81,9 @@ record Computed : Type 0 where
   whole-reply : replyAfter empty request62 nines ≡ 0 ∷ 0 ∷ 0 ∷ 0 ∷ 9 ∷ 9 ∷ []
   whole-data : dataOf (containerAfter empty request62 nines) ≡ 0 ∷ 0 ∷ 0 ∷ 65 ∷ 66 ∷ []
   short : map seen reads ≡ returned
+  fields : passing inFields (length leased) 0
+      ≡ 84 ∷ 85 ∷ 86 ∷ 87 ∷ 88 ∷ 89 ∷ 90 ∷ 91 ∷ 92 ∷ 93 ∷ 94 ∷ 95 ∷ 96 ∷ 97 ∷ 98 ∷ 99 ∷ []
+  stretches : map touch rewrites ≡ touched
 
 computed : Computed
 unfolding numberAfter number numberAt digits allZero same order join lengthAllowed countAt usedLength nodeOf enablerOf
@@ -89,7 +95,8 @@ unfolding numberAfter number numberAt digits allZero same order join lengthAllow
     placed writesResolve writeAll cutTo rewritten renewedBy cancelledBy vacant maybe firstOf placedIn added knows
     present withBytes withLeases after replyTo firstRow rows admitRows findRows roomRows requestRows outcome
     replies afterOf replyBytes counted answerTo answered replyAfter containerAfter createOutcome createdContainer
-    numbers finally usedIn result far readsFrom readCount readOk readPiece seen
+    numbers finally result far readsFrom readCount readOk readPiece seen covers cutChange writeChanges changesOf
+    anyOf inFields inWritten stretchFrom stretchTo passing differences touch
 computed = record {
   p1 = refl;
   p1-long = λ long e. rw e refl;
@@ -102,6 +109,8 @@ computed = record {
   whole-reply = refl;
   whole-data = refl;
   short = refl;
+  fields = refl;
+  stretches = refl;
 }
 
 -- THE TABLES' CLAIM
@@ -119,4 +128,6 @@ edges = record {
   whole-reply = computed .whole-reply;
   whole-data = computed .whole-data;
   short = computed .short;
+  fields = computed .fields;
+  stretches = computed .stretches;
 }

@@ -12,4 +12,5 @@ pub mod EdgeTable
 pub mod Demand1
 pub mod Demand2
 pub mod ShortReads
+pub mod Stretch
 pub mod Secrets

@@ -116,6 +116,11 @@ unfolding cutTo cutSize
 length-cutTo none d = refl
 length-cutTo (some n) d = length-take n d
 
+pub at-cutTo : (c : Option ℕ) (d : List ℕ) (i : ℕ) → i < length (cutTo c d) → getD (cutTo c d) i 0 ≡ getD d i 0
+unfolding cutTo
+at-cutTo none d i h = refl
+at-cutTo (some n) d i h = getD-take n d i 0 (omega (arith, length-take n d))
+
 -- ---- clipped writes
 grow-small : (n off k : ℕ) → k ≤ n - off → grow n off k ≡ n
 unfolding grow
@@ -151,7 +156,7 @@ over-clip F w i v lt = go (spot (w .at) (length (w .bytes)) i)
         (getD-take (F - o) (w .bytes) (i - o) 0 (omega arith))
     go (high h) = rw (covers-high o n i h, covers-high o k i (omega (arith, lk)))
 
-over-clipped : (F : ℕ) (ws : List Placed) (i v : ℕ) → i < F → overAll (map (clip F) ws) i v ≡ overAll ws i v
+pub over-clipped : (F : ℕ) (ws : List Placed) (i v : ℕ) → i < F → overAll (map (clip F) ws) i v ≡ overAll ws i v
 unfolding overAll
 over-clipped F [] i v h = refl
 over-clipped F (w ∷ ws) i v h = over-clipped F ws i (over (clip F w) i v) h ∙ rw over-clip
@@ -160,7 +165,7 @@ pub length-resize : (F : ℕ) (d : List ℕ) → length (resize F d) ≡ F
 unfolding resize
 length-resize F d = simp (length-take, length-padTo) (omega arith)
 
-at-resize : (F : ℕ) (d : List ℕ) (i : ℕ) → i < F → getD (resize F d) i 0 ≡ getD d i 0
+pub at-resize : (F : ℕ) (d : List ℕ) (i : ℕ) → i < F → getD (resize F d) i 0 ≡ getD d i 0
 unfolding resize
 at-resize F d i h = getD-take F (padTo d F) i 0 h ∙ at-pad d F i
 

@@ -1,6 +1,6 @@
 -- The writes and cuts of a request as changes, the size that changes give and what they leave at a position.
 use Prim.Native.Nat.{ℕ, _+_, _-_, min}
-use mathlib.Core.Bool.{Bool, cond, _&&_}
+use mathlib.Core.Bool.{Bool, false, cond, _&&_}
 use mathlib.Core.List.{List, [], _∷_}
 use mathlib.Core.Option.{Option, none, some}
 use lib.ListN.{length, getD}
@@ -10,14 +10,23 @@ use Rattle.rules.specs.Requests.{Request, testWrite, add, renew, cancel,
 use Rattle.octets.specs.Lists.{orElse}
 use Rattle.octets.specs.Last.{lastSaid}
 
+-- Whether position i stands from a on and before b.
+abbrev pub within : ℕ → ℕ → ℕ → Bool
+within a b i = leb a i && ltb i b
+
 -- Whether a write of k bytes at a position covers position i (docs/RULES.md, H12).
 unfoldable pub covers : ℕ → ℕ → ℕ → Bool
-covers at k i = leb at i && ltb i (at + k)
+covers at k i = within at (at + k) i
 
 -- A write of bytes at a position, or a cut to a new length (H10).
 pub data Change : Type 0 where
   wrote : ℕ → List ℕ → Change
   cutAt : ℕ → Change
+
+-- Whether a change writes position i (H12).
+abbrev pub writesAt : ℕ → Change → Bool
+writesAt i (wrote at bs) = covers at (length bs) i
+writesAt i (cutAt m) = false
 
 -- The size: a write that is not empty raises it to position plus length, a cut lowers it to the new length (H11).
 unfoldable pub sizeBy : Change → ℕ → ℕ

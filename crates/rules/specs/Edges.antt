@@ -1,17 +1,18 @@
--- Numbers at the edges (docs/RULES.md, P1 to P10, P12 to P16), as tables: what create and then a few requests give, and
--- what reads return.
-use Prim.Native.Nat.{ℕ}
+-- Numbers at the edges (docs/RULES.md, P1 to P10, P12 to P20), as tables: what create and then a few requests give,
+-- what reads return, and which bytes a test-and-write changes.
+use Prim.Native.Nat.{ℕ, zero, suc}
 use mathlib.Core.Path.{_≡_}
-use mathlib.Core.Bool.{cond}
+use mathlib.Core.Bool.{Bool, cond}
 use mathlib.Core.List.{List, [], _∷_, _++_, map}
 use lib.ListN.{length, replicate}
 use lib.Dec.{eqb}
 use Rattle.octets.specs.Numbers.{digits}
 use Rattle.octets.specs.Strings.{join}
-use Rattle.format.specs.Layout.{usedLength, sizeOf, extrasOf, dataOf}
+use Rattle.format.specs.Layout.{dataOf, usedEnd}
 use Rattle.format.specs.Parts.{encode, fresh}
 use Rattle.rules.specs.Outcomes.{outcome, answerOf, noNode, answered, containerAfter, replyAfter, createOutcome}
-use Rattle.rules.specs.Outcomes.{createdContainer, withBytes}
+use Rattle.rules.specs.Outcomes.{createdContainer, withBytes, withLeases}
+use Rattle.rules.specs.Stretch.{inFields, inWritten, stretchFrom, stretchTo}
 
 -- The enabler of every case, EE 32 times.
 abbrev pub enabler : List ℕ
@@ -64,9 +65,12 @@ check at n op s = record { at = at; count = n; opcode = op; specimen = s }
 abbrev pub write : List Put → List ℕ
 write ws = testAndWrite [] ws 0 0
 
--- An add as bytes: a lease of owner k, expiry 7, with tokens of 32 bytes k.
+-- A lease record of owner k, expiry 7, with tokens of 32 bytes k; and an add of it as bytes.
+abbrev pub leaseOf : ℕ → List ℕ
+leaseOf k = digits 4 k ++ (digits 4 7 ++ (replicate 64 k ++ node))
+
 abbrev pub addLease : ℕ → List ℕ
-addLease k = 2 ∷ (digits 4 k ++ (digits 4 7 ++ (replicate 64 k ++ replicate 20 0)))
+addLease k = 2 ∷ leaseOf k
 
 -- A case: a buffer to create in, then requests one after the other.
 pub record Case : Type 0 where
@@ -94,10 +98,6 @@ pub record Outcome : Type 0 where
   pub bytes : List ℕ
   pub used : ℕ
 
--- The used length, from the fields.
-unfoldable pub usedIn : List ℕ → ℕ
-usedIn c = usedLength (sizeOf c) (extrasOf c)
-
 -- A case carried out.
 unfoldable pub result : Case → Outcome
 result x =
@@ -105,7 +105,7 @@ result x =
     let c : List ℕ = createdContainer (x .buffer) node enabler in
     let e : List ℕ = finally (x .requests) c in
     cond (eqb n 0)
-    (record { created = n; answers = numbers (x .requests) c; bytes = dataOf e; used = usedIn e })
+    (record { created = n; answers = numbers (x .requests) c; bytes = dataOf e; used = usedEnd e })
     (record { created = n; answers = []; bytes = []; used = 0 })
 
 -- A row of results: create's number, the answers, the data, the used length.
@@ -260,6 +260,94 @@ returned =
     ∷ shows 4 0 []
     ∷ []
 
+-- A container of 571 bytes with ABCDE as data and five leases, one of them extra: its used length is 569.
+abbrev pub leased : List ℕ
+leased = encode (withLeases (withBytes (fresh 571 node enabler) (65 ∷ 66 ∷ 67 ∷ 68 ∷ 69 ∷ []))
+    (map leaseOf (1 ∷ 2 ∷ 3 ∷ 4 ∷ 5 ∷ [])))
+
+-- The positions from i on, n of them, that pass a test; and those from i on at which two buffers differ.
+unfoldable pub passing : (ℕ → Bool) → ℕ → ℕ → List ℕ
+passing test zero i = []
+passing test (suc n) i = cond (test i) (i ∷ passing test n (suc i)) (passing test n (suc i))
+
+unfoldable pub differences : ℕ → List ℕ → List ℕ → List ℕ
+differences i [] ys = []
+differences i (x ∷ xs) [] = []
+differences i (x ∷ xs) (y ∷ ys) =
+    cond (eqb x y) (differences (suc i) xs ys) (i ∷ differences (suc i) xs ys)
+
+-- What a request on that container touches: its number, the stretch, the positions of the buffer that count as written,
+-- and those at which it differs afterwards.
+pub record Touch : Type 0 where
+  pub number : ℕ
+  pub from : ℕ
+  pub to : ℕ
+  pub written : List ℕ
+  pub changed : List ℕ
+
+-- A request carried out on it.
+unfoldable pub touch : List ℕ → Touch
+touch q =
+    let e : List ℕ = containerAfter leased q space in
+    record {
+      number = answered leased q space .number;
+      from = stretchFrom leased e;
+      to = stretchTo leased e;
+      written = passing (inWritten leased q e) (length leased) 0;
+      changed = differences 0 leased e;
+    }
+
+-- A row of the table: number, stretch, written, changed.
+abbrev pub touches : ℕ → ℕ → ℕ → List ℕ → List ℕ → Touch
+touches n a b is js = record { number = n; from = a; to = b; written = is; changed = js }
+
+-- The table of what is touched: P17 (a write inside the data; up to the end; two at 0 and 2; of the bytes that are
+-- there), P18 (a write at the end; from before it; past it; past it and then at it), P19 (a cut by one byte; to
+-- nothing; to the size), P20 (a write over the end and a cut inside it; a write past the end and a cut to the size; a
+-- byte more than the room).
+abbrev pub rewrites : List (List ℕ)
+rewrites =
+    write (bytesAt 1 (88 ∷ 89 ∷ []) ∷ [])
+    ∷ write (bytesAt 3 (88 ∷ 89 ∷ []) ∷ [])
+    ∷ write (bytesAt 0 (88 ∷ []) ∷ bytesAt 2 (89 ∷ []) ∷ [])
+    ∷ write (bytesAt 1 (66 ∷ 67 ∷ []) ∷ [])
+    ∷ write (bytesAt 5 (70 ∷ []) ∷ [])
+    ∷ write (bytesAt 4 (88 ∷ 70 ∷ []) ∷ [])
+    ∷ write (bytesAt 6 (71 ∷ []) ∷ [])
+    ∷ write (bytesAt 6 (71 ∷ []) ∷ bytesAt 5 (70 ∷ []) ∷ [])
+    ∷ testAndWrite [] [] 1 4
+    ∷ testAndWrite [] [] 1 0
+    ∷ testAndWrite [] [] 1 5
+    ∷ testAndWrite [] (bytesAt 2 (88 ∷ 89 ∷ 90 ∷ 91 ∷ []) ∷ []) 1 4
+    ∷ testAndWrite [] (bytesAt 9 (88 ∷ []) ∷ []) 1 5
+    ∷ write (bytesAt 7 (71 ∷ []) ∷ [])
+    ∷ []
+
+-- What each touches, in the same order.
+abbrev pub touched : List Touch
+touched =
+    touches 0 473 569 (469 ∷ 470 ∷ []) (469 ∷ 470 ∷ [])
+    ∷ touches 0 473 569 (471 ∷ 472 ∷ []) (471 ∷ 472 ∷ [])
+    ∷ touches 0 473 569 (468 ∷ 470 ∷ []) (468 ∷ 470 ∷ [])
+    ∷ touches 0 473 569 (469 ∷ 470 ∷ []) []
+    ∷ touches 0 473 570 (473 ∷ []) (91 ∷ 99 ∷ 473 ∷ 476 ∷ 477 ∷ 480 ∷ 481 ∷ 484 ∷ 485 ∷ 549 ∷ 569 ∷ [])
+    ∷ touches 0 473 570 (472 ∷ 473 ∷ [])
+    (91 ∷ 99 ∷ 472 ∷ 473 ∷ 476 ∷ 477 ∷ 480 ∷ 481 ∷ 484 ∷ 485 ∷ 549 ∷ 569 ∷ [])
+    ∷ touches 0 473 571 (474 ∷ [])
+    (91 ∷ 99 ∷ 474 ∷ 476 ∷ 478 ∷ 480 ∷ 482 ∷ 484 ∷ 485 ∷ 486 ∷ 549 ∷ 550 ∷ 569 ∷ 570 ∷ [])
+    ∷ touches 0 473 571 (473 ∷ 474 ∷ [])
+    (91 ∷ 99 ∷ 473 ∷ 474 ∷ 476 ∷ 478 ∷ 480 ∷ 482 ∷ 484 ∷ 485 ∷ 486 ∷ 549 ∷ 550 ∷ 569 ∷ 570 ∷ [])
+    ∷ touches 0 472 569 [] (91 ∷ 99 ∷ 472 ∷ 475 ∷ 476 ∷ 479 ∷ 480 ∷ 483 ∷ 484 ∷ 548 ∷ 568 ∷ [])
+    ∷ touches 0 468 569 []
+    (91 ∷ 99 ∷ 468 ∷ 469 ∷ 470 ∷ 471 ∷ 472 ∷ 475 ∷ 476 ∷ 479 ∷ 481 ∷ 482 ∷ 483 ∷ 484 ∷ 544 ∷ 545 ∷ 546 ∷ 547 ∷
+    548 ∷ 564 ∷ 565 ∷ 566 ∷ 567 ∷ 568 ∷ [])
+    ∷ touches 0 473 569 [] []
+    ∷ touches 0 472 569 (470 ∷ 471 ∷ [])
+    (91 ∷ 99 ∷ 470 ∷ 471 ∷ 472 ∷ 475 ∷ 476 ∷ 479 ∷ 480 ∷ 483 ∷ 484 ∷ 548 ∷ 568 ∷ [])
+    ∷ touches 0 473 569 [] []
+    ∷ touches 11 473 569 [] []
+    ∷ []
+
 -- The claim of the tables.
 pub record EdgesHold : Type 0 where
   -- every case gives its result
@@ -273,3 +361,8 @@ pub record EdgesHold : Type 0 where
   pub whole-data : dataOf (containerAfter empty request62 nines) ≡ 0 ∷ 0 ∷ 0 ∷ 65 ∷ 66 ∷ []
   -- every row of the table of reads gives what stands beside it
   pub short : map seen reads ≡ returned
+  -- the two fields are the bytes from 84 up to 100
+  pub fields : passing inFields (length leased) 0
+      ≡ 84 ∷ 85 ∷ 86 ∷ 87 ∷ 88 ∷ 89 ∷ 90 ∷ 91 ∷ 92 ∷ 93 ∷ 94 ∷ 95 ∷ 96 ∷ 97 ∷ 98 ∷ 99 ∷ []
+  -- every row of the table of what is touched touches what stands beside it
+  pub stretches : map touch rewrites ≡ touched

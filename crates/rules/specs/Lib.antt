@@ -7,4 +7,5 @@ pub mod Changes
 pub mod Leasing
 pub mod Outcomes
 pub mod Claims
+pub mod Stretch
 pub mod Edges
