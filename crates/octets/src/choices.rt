@@ -10,6 +10,13 @@ pub fn lesser(x: usize, y: usize) -> usize
     if x < y { x } else { y }
 }
 
+// The greater of two numbers: at least each, and one of them.
+pub fn greater(x: usize, y: usize) -> usize
+    ensures { λ r. ⌜ (x ≤ r) × (y ≤ r) × (x < r → r ≡ y) ⌝ }
+{
+    if x < y { y } else { x }
+}
+
 // Whether both hold.
 pub fn both(x: bool, y: bool) -> bool
     ensures { λ r. ⌜ r ≡ (x && y) ⌝ }

@@ -1,17 +1,16 @@
 -- The table of writes, an entry at a time, as the two passes over it take it. Assumes nothing.
 use mathlib.Core.Path.{_≡_, refl, sym, ap, _∙_}
-use mathlib.Core.Bool.{Bool, true, false, _&&_}
+use mathlib.Core.Bool.{Bool, _&&_}
 use mathlib.Core.List.{List, [], _∷_, map, append-nil}
 use Prim.Native.Nat.{ℕ, zero, suc, _+_, _-_, _*_, _≤_, _<_, min, max}
 use native.Mathlib.Omega.{arith}
 use native.Mathlib.Nat.{add-zero}
-use lib.Dec.{ltb}
 use lib.ListN.{length, take, drop, replicate, length-take, length-drop, take-append-drop}
 use lib.Seq.{take-append-le, length-take-le}
-use borrow.Author.Tests.{ltb-true, ltb-false}
 use Rattle.octets.specs.Facts.{Octets}
 use Rattle.octets.specs.Moves.{put}
 use Rattle.octets.proofs.ListLaws.{and-assoc, and-true, take-min}
+use Rattle.octets.proofs.ChoiceLaws.{least-is}
 use Rattle.rules.specs.Requests.{Write, entrySize, entryOffset, entryCount, sumFrom, writesFrom}
 use Rattle.rules.specs.Testing.{resolves}
 use Rattle.rules.specs.Writing.{padTo, writeAt, grow, placed, writesResolve, writeAll}
@@ -21,11 +20,11 @@ use Rattle.requests.specs.Offsets.{resolvedOf}
 use Rattle.requests.specs.Forms.{PartedIn}
 use Rattle.requests.proofs.CursorLaws.{position-below, count-below}
 use Rattle.requests.proofs.FormLaws.{sum-next, times-next}
-use Rattle.writes.specs.Sizes.{reachedBy}
+use Rattle.writes.specs.Sizes.{gapEnd, lastGap, walkedBy}
 use Rattle.requests.specs.declared.cursors.Entry.{Entry}
 use Rattle.requests.specs.declared.offsets.Resolved.{Resolved}
 use Rattle.requests.specs.declared.forms.Parted.{Parted}
-use Rattle.writes.specs.declared.sizes.Reached.{Reached}
+use Rattle.writes.specs.declared.sizes.Walked.{Walked}
 
 -- ---- one write
 pub grow-some : (n at k : ℕ) → (k ≡ 0 → ⊥) → grow n at k ≡ max n (at + k)
@@ -44,20 +43,12 @@ unfolding writeAt padTo
 put-writes d at [] h = rw (append-nil, add-zero) (take-append-drop at d)
 put-writes d at (b ∷ bs) h = rw (take-append-le at d (replicate (at - length d) 0) (omega arith))
 
--- At most each of two numbers, and one of them.
-least-is : (r x y : ℕ) → r ≤ x → r ≤ y → (r < x → r ≡ y) → r ≡ min x y
-least-is r x y h k e = go (ltb r x) refl
-  where
-    go : (b : Bool) → ltb r x ≡ b → r ≡ min x y
-    go true p = omega (arith, e (ltb-true r x p))
-    go false p = omega (arith, ltb-false r x p)
-
 -- A clipped write that begins inside the data, and one that begins behind it.
 pub write-near : (d : List ℕ) (at n : ℕ) (bs : List ℕ) → at < length d
     → (n ≤ length d - at) × (n ≤ length bs) × (n < length d - at → n ≡ length bs)
     → put at (take n bs) d ≡ writeAt d at (take (length d - at) bs)
 write-near d at n bs h e =
-    let m : n ≡ min (length d - at) (length bs) = least-is n (length d - at) (length bs) (e .0) (e .1) (e .2) in
+    let m : n ≡ min (length d - at) (length bs) = least-is n (length d - at) (length bs) e in
     let k : take (length d - at) bs ≡ take n bs =
     take-min (length d - at) bs ∙ ap (λ (i : ℕ). take i bs) (sym m) in
     rw k (put-writes d at (take n bs) (simp length-take (omega arith)))
@@ -131,11 +122,19 @@ module _ {q : List ℕ} {v p b size : ℕ} {e : Entry} {r : Resolved} (K : Taken
   unfolding placed
   entry-placed = rw (K .place, K .entry, writes-are, body-length)
 
+  count-length : length (take (e .count) (drop b q)) ≡ e .count
+  count-length = rw (K .entry) body-length
+
   entry-size : sizeAll (placed (writesFrom v p b q) size) size ≡ sizeAll (placed left onward) onward
   unfolding sizeAll
-  entry-size =
-      let l : length (take (e .count) (drop b q)) ≡ e .count = rw (K .entry) body-length in
-      rw entry-placed (ap (λ (m : ℕ). sizeAll (placed left onward) (grow size (r .position) m)) l)
+  entry-size = rw entry-placed (ap (λ (m : ℕ). sizeAll (placed left onward) (grow size (r .position) m)) count-length)
+
+  entry-gap : (x : ℕ) → lastGap (placed (writesFrom v p b q) size) size x
+      ≡ lastGap (placed left onward) onward (gapEnd x size (r .position) (e .count))
+  unfolding lastGap
+  entry-gap x =
+      let at : ℕ = r .position in
+      rw entry-placed (ap (λ (m : ℕ). lastGap (placed left onward) (grow size at m) (gapEnd x size at m)) count-length)
 
   entry-written : (F : ℕ) (d x : List ℕ) → F ≡ length d
       → x ≡ writeAt d (r .position) (take (length d - r .position) (take (e .count) (drop b q)))
@@ -150,30 +149,34 @@ none-left zero p b q h = refl
 none-left (suc v) p b q h = absurd (omega arith)
 
 -- ---- the loop over the sizes
--- With `resolves` and `after` so far and the writes ws to come.
-abbrev pub reaching : Bool → List Write → ℕ → Reached
-reaching resolves ws after =
-    record { resolves = resolves && writesResolve ws after; size = sizeAll (placed ws after) after }
+-- With `resolves`, `after` and `end` so far and the writes ws to come.
+abbrev pub walking : Bool → List Write → ℕ → ℕ → Walked
+walking resolves ws after end = record {
+  resolves = resolves && writesResolve ws after;
+  size = sizeAll (placed ws after) after;
+  end = lastGap (placed ws after) after end;
+}
 
-pub record Reaching (q : List ℕ) (ws : List Write) (size v at : ℕ) (resolves : Bool) (after : ℕ) : Type 0 where
+pub record Walking (q : List ℕ) (ws : List Write) (size v at : ℕ) (resolves : Bool) (after end : ℕ) : Type 0 where
   pub body : ℕ
   pub rest : Rest q v at body
-  pub reached : reaching resolves (writesFrom v at body q) after ≡ reachedBy ws size
+  pub walked : walking resolves (writesFrom v at body q) after end ≡ walkedBy ws size
 
-module _ {q : List ℕ} {ws : List Write} {size v at : ℕ} {s : Bool} {after : ℕ}
-    (R : Reaching q ws size v at s after) where
-  pub reaching-next : {e : Entry} {r : Resolved} → Taken q v at (R .body) after e r → (x : Bool) (next : ℕ)
+module _ {q : List ℕ} {ws : List Write} {size v at : ℕ} {s : Bool} {after end : ℕ}
+    (R : Walking q ws size v at s after end) where
+  pub walking-next : {e : Entry} {r : Resolved} → Taken q v at (R .body) after e r → (x : Bool) (next behind : ℕ)
       → x ≡ (s && r .resolves) → next ≡ grow after (r .position) (e .count)
-      → Reaching q ws size (v - 1) (e .next .at) x next
-  reaching-next K x next g h = record {
+      → behind ≡ gapEnd end after (r .position) (e .count) → Walking q ws size (v - 1) (e .next .at) x next behind
+  walking-next K x next behind g h k = record {
     body = _;
     rest = entry-rest K;
-    reached = rw (g, h, and-assoc, ← entry-resolves K, ← entry-size K) (R .reached);
+    walked = rw (g, h, k, and-assoc, ← entry-resolves K, ← entry-size K, ← entry-gap K end) (R .walked);
   }
 
-  pub reaching-end : v ≤ 0 → _≡_ {A = Reached} (record { resolves = s; size = after }) (reachedBy ws size)
-  unfolding writesResolve placed sizeAll
-  reaching-end h = rw (none-left v at (R .body) q h, and-true) at (R .reached)
+  pub walking-end : v ≤ 0
+      → _≡_ {A = Walked} (record { resolves = s; size = after; end = end }) (walkedBy ws size)
+  unfolding writesResolve placed sizeAll lastGap
+  walking-end h = rw (none-left v at (R .body) q h, and-true) at (R .walked)
 
 -- ---- the loop that writes
 -- The writes that are left, put into the present data d, give what all of them, ws, give in the first data a.

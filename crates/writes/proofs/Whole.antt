@@ -1,10 +1,10 @@
 -- The view after the rewriting is the encoding of the parts with the data rewritten. Assumes nothing.
 use mathlib.Core.Path.{_≡_, refl, sym, ap, _∙_}
 use mathlib.Core.List.{List, _++_, map, append-assoc}
-use mathlib.Core.Option.{Option}
-use Prim.Native.Nat.{ℕ, _+_}
+use mathlib.Core.Option.{Option, none, some}
+use Prim.Native.Nat.{ℕ, _+_, _≤_, _<_}
 use native.Mathlib.Omega.{arith}
-use lib.ListN.{length, take, drop, length-append}
+use lib.ListN.{length, take, drop, getD, length-append}
 use lib.Seq.{take-at, drop-at}
 use Rattle.octets.specs.Numbers.{digits}
 use Rattle.octets.specs.Strings.{join}
@@ -18,15 +18,19 @@ use Rattle.format.specs.Claims.{Valid}
 use Rattle.format.specs.Judging.{Known}
 use Rattle.format.proofs.WellFormed.{used-is}
 use Rattle.format.proofs.RoundTrip.{parts-valid}
-use Rattle.format.proofs.KnownLaws.{extras-framed}
+use Rattle.format.proofs.KnownLaws.{extras-framed, known-room}
 use Rattle.format.proofs.ViewLaws.{formed-laid, laid-encoded}
 use Rattle.rules.specs.Requests.{Write}
 use Rattle.rules.specs.Writing.{writeAll, placed, rewritten}
-use Rattle.rules.specs.Sizes.{finalSize, clip, resize}
+use Rattle.rules.specs.Sizes.{sizeAll, cutSize, finalSize, clip, resize}
 use Rattle.rules.specs.Outcomes.{withBytes}
 use Rattle.rules.proofs.WriteLaws.{no-gap}
-use Rattle.writes.specs.Rewrite.{Turns, fieldsOf, withSize}
+use Rattle.writes.specs.Sizes.{lastGap}
+use Rattle.writes.specs.Stretch.{Fits}
+use Rattle.writes.specs.Rewrite.{Turns, kept, fieldsOf, withSize, Final}
+use Rattle.writes.proofs.GapLaws.{filled}
 use Rattle.format.specs.declared.layout.Frame.{Frame}
+use Rattle.requests.specs.declared.forms.Parted.{Parted}
 
 -- ---- the parts with other data
 -- The two numbers u and v in a head are replaced by x and y.
@@ -60,6 +64,12 @@ used-written c d f k =
     rw (extras-framed k) (omega (arith, used-is (length d) (f .extras)))
 
 -- ---- the rewriting
+-- The cut makes nothing longer.
+final-most : (ws : List Write) (cut : Option ℕ) (n : ℕ) → finalSize ws cut n ≤ sizeAll (placed ws n) n
+unfolding finalSize cutSize
+final-most ws none n = omega arith
+final-most ws (some m) n = omega arith
+
 -- Resized, then the clipped writes: that is the writes in order and then the cut.
 rewritten-is : (ws : List Write) (cut : Option ℕ) (d : List ℕ) (size f : ℕ) → length d ≡ size
     → f ≡ finalSize ws cut size → writeAll (map (clip f) (placed ws size)) (resize f d) ≡ rewritten ws cut d
@@ -82,13 +92,51 @@ module _ (c e : List ℕ) (frame : Frame) (f : ℕ) (k : Known c frame) (o : Oct
       laid-encoded (withBytes p d) f kept-size e (rw (h, tail-written p d) at l)
       (used-written c d frame k ∙ rw (l .sized))
 
-  -- What turns the view so has made the encoding of the parts with the data rewritten.
-  pub rewritten-whole : (ws : List Write) (cut : Option ℕ)
-      → Turns (frame .size) f kept-size (withSize f)
-      (λ d. writeAll (map (clip f) (placed ws (frame .size))) (resize f d)) c e
+  -- Data with the old bytes up to the last gap's end, and the writes over it, in the view with the fields of the final
+  -- size, are the encoding of the parts with the data rewritten.
+  pub rewritten-whole : (ws : List Write) (cut : Option ℕ) (x : List ℕ) → length x ≡ f
+      → ((i : ℕ) → i < lastGap (placed ws (frame .size)) (frame .size) (frame .size) → i < f
+      → getD x i 0 ≡ getD (dataOf c) i 0)
+      → Laid (length c) f kept-size e (withSize f (headOf p))
+      (writeAll (map (clip f) (placed ws (frame .size))) x) (tailOf p)
       → f ≡ finalSize ws cut (frame .size) → e ≡ encode (withBytes (partsOf c) (rewritten ws cut (dataOf c)))
-  rewritten-whole ws cut T g =
-      let l = formed-laid c frame k o in
-      laid-written _ (T .turn l)
+  rewritten-whole ws cut x l first v g =
+      let y = filled (placed ws (frame .size)) (frame .size) f x (dataOf c) l
+      (rw g (final-most ws cut (frame .size))) first in
+      laid-written _ v
       ∙ ap (λ (d : List ℕ). encode (withBytes p d))
-      (rewritten-is ws cut (dataOf c) (frame .size) f (l .sized) g)
+      (y ∙ rewritten-is ws cut (dataOf c) (frame .size) f (formed-laid c frame k o .sized) g)
+
+  -- Where the size stays, the fields are those of the final size already.
+  same-head : frame .size ≡ f → headOf p ≡ withSize f (headOf p)
+  unfolding withBytes partsOf
+  same-head g =
+      let l : length (dataOf c) ≡ f = formed-laid c frame k o .sized ∙ g in
+      sym (ap (λ (n : ℕ). withSize n (headOf p)) (sym l) ∙ head-written p (dataOf c) (parts-valid c (k .formed)))
+
+  -- So the writes alone make the whole.
+  pub same-whole : frame .size ≡ f → (ws : List Write) (cut : Option ℕ)
+      → Turns f kept-size kept (writeAll (map (clip f) (placed ws (frame .size)))) c e
+      → f ≡ finalSize ws cut (frame .size) → e ≡ encode (withBytes (partsOf c) (rewritten ws cut (dataOf c)))
+  same-whole g ws cut T q =
+      let L = formed-laid c frame k o in
+      let M : Laid (length c) f kept-size c (withSize f (headOf p)) (dataOf c) (tailOf p) = record {
+        is = rw (← same-head g, ← g) (L .is);
+        head = rw (← same-head g) (L .head);
+        sized = L .sized ∙ g;
+        tail = L .tail;
+        fits = rw (← g) (L .fits);
+      } in
+      rewritten-whole ws cut (dataOf c) (M .sized) (λ i l m. refl) (T .turn M) q
+
+-- Both sizes have room.
+pub both-fit : {c q : List ℕ} {frame : Frame} {t : Parted} {f : ℕ} → Known c frame → Final q t frame f (length c)
+    → Fits frame f (length c)
+both-fit {frame = frame} k r =
+    let m = known-room k in
+    record {
+      before = omega (arith, used-is (frame .size) (frame .extras), m .0);
+      after = r .fits;
+      most = m .1;
+      few = m .2;
+    }

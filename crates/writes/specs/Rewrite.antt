@@ -11,9 +11,9 @@ use Rattle.requests.specs.Forms.{writesIn, cutIn}
 use Rattle.format.specs.declared.layout.Frame.{Frame}
 use Rattle.requests.specs.declared.forms.Parted.{Parted}
 
--- c becomes e: the head by H, the data by D from s to f bytes, the tail of k bytes follows them, zeros to the end.
-pub record Turns (s f k : ℕ) (H D : List ℕ → List ℕ) (c e : List ℕ) : Type 0 where
-  pub turn : {n : ℕ} {h d t : List ℕ} → Laid n s k c h d t → Laid n f k e (H h) (D d) t
+-- c becomes e: the head by H, the data of s bytes by D, which keeps the size, and the tail of k bytes stays.
+pub record Turns (s k : ℕ) (H D : List ℕ → List ℕ) (c e : List ℕ) : Type 0 where
+  pub turn : {n : ℕ} {h d t : List ℕ} → Laid n s k c h d t → Laid n s k e (H h) (D d) t
 
 abbrev pub kept : List ℕ → List ℕ
 kept l = l

@@ -2,3 +2,4 @@
 mod overlay;
 pub mod rewrite;
 pub mod sizes;
+mod stretch;

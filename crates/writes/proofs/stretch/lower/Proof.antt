@@ -1,18 +1,16 @@
 -- The move and the clear together are one equation of lists.
-use mathlib.Core.Path.{refl, _∙_}
-use Prim.Native.Nat.{_-_}
+use mathlib.Core.Path.{_∙_}
 use native.Mathlib.Omega.{arith}
-use lib.ListN.{length}
 use borrow.Author.Needs.{needs}
-use Rattle.writes.proofs.RewriteLaws.{shifted-down}
-use Rattle.writes.proofs.rewrite.shift_down.Statement.{statement}
-use Rattle.writes.proofs.rewrite.shift_down.Tie as tie
-
-sub-k : tie.Need-sub-k
-sub-k c = search needs
+use Rattle.writes.proofs.StretchLaws.{lowered}
+use Rattle.writes.proofs.stretch.lower.Statement.{statement}
+use Rattle.writes.proofs.stretch.lower.Tie as tie
 
 move-within-requires : tie.Need-move-within-requires
 move-within-requires c κs = search needs
+
+add-clear-part : tie.Need-add-clear-part
+add-clear-part c = search needs
 
 clear-part-requires : tie.Need-clear-part-requires
 clear-part-requires c κs = search needs
@@ -25,8 +23,8 @@ returns c =
     let a = c .before .before .before .before .before .before .before .before .before .args in
     c .before .before .clear-part .ensures
     ∙ rw (c .before .before .before .before .before .before .move-within .ensures)
-    (shifted-down (a .p .now) (a .t) (length (a .p .now) - a .t) (omega arith) refl)
+    (lowered (a .p .now) (a .gap) (a .t) (omega arith))
 
-pub shift-down-spec : {M : Type 1} → statement M
-shift-down-spec =
-    tie.close (tie.spec sub-k move-within-requires clear-part-requires same-length returns)
+pub lower-spec : {M : Type 1} → statement M
+lower-spec =
+    tie.close (tie.spec move-within-requires add-clear-part clear-part-requires same-length returns)

@@ -1,0 +1,77 @@
+-- The view refitted, then the writes, then the fields.
+use Prim.Native.Nat.{_+_, _≤_}
+use native.Mathlib.Omega.{arith}
+use lib.ListN.{length}
+use borrow.Author.Needs.{needs}
+use Rattle.octets.specs.Facts.{Octets}
+use Rattle.format.specs.Layout.{dataAt}
+use Rattle.format.specs.View.{tailSize}
+use Rattle.format.specs.Parts.{partsOf}
+use Rattle.format.proofs.WellFormed.{used-is}
+use Rattle.format.proofs.JudgingLaws.{known-most}
+use Rattle.format.proofs.ViewLaws.{formed-laid}
+use Rattle.rules.specs.Outcomes.{after}
+use Rattle.requests.specs.Forms.{cutIn}
+use Rattle.writes.proofs.Whole.{rewritten-whole, both-fit}
+use Rattle.writes.proofs.rewrite.lengthen.Statement.{statement}
+use Rattle.writes.proofs.rewrite.lengthen.Tie as tie
+
+-- The view afterwards fits.
+room : (s : tie.Start) → let a = s .args in dataAt + a .f + tailSize (a .frame .extras) ≤ length (a .c .now)
+room s = let a = s .args in omega (arith, used-is (a .f) (a .frame .extras), s .pre .2 .fits)
+
+bare-requires : tie.Need-bare-requires
+bare-requires c κs = search needs
+
+refit-requires : tie.Need-refit-requires
+refit-requires c κs =
+    let b = c .before in
+    let s = b .before .before .before in
+    (both-fit (s .pre .0) (s .pre .2), omega (arith, b .bare .ensures))
+
+write-data-requires : tie.Need-write-data-requires
+write-data-requires c κs =
+    let s = c .before .before .before .before .before .before .before .before in
+    (omega (arith, room s), s .pre .1)
+
+resized-requires : tie.Need-resized-requires
+resized-requires c κs = search needs
+
+put-fields-requires : tie.Need-put-fields-requires
+put-fields-requires c κs =
+    let s = c .before .before .before .before .before .before .before .before .before .before .before .before .before in
+    rw (c .resized .ensures)
+    (omega (arith, room s), omega (arith, room s, known-most (s .args .c .now) (s .args .frame) (s .pre .0)))
+
+same-length : tie.Need-same-length
+same-length c = search needs
+
+returns : tie.Need-returns
+unfolding after partsOf
+returns c =
+    let p = c .before .before in
+    let z = p .before in
+    let w = z .before .before .before .before in
+    let r = w .before .before .before .before in
+    let b = r .before .before in
+    let s = b .before .before .before in
+    let a = s .args in
+    let k = tailSize (a .frame .extras) in
+    let o : Octets (a .c .now) = λ i. omega (arith, b .before .before .slice-known .given i) in
+    let x = r .refit .ensures .turn (formed-laid (a .c .now) (a .frame) (s .pre .0) o) in
+    let P = rw (z .resized .ensures) at (p .put-fields .ensures) in
+    rewritten-whole (a .c .now) _ (a .frame) (a .f) (s .pre .0) o _ (cutIn (a .t .cut)) (x .bytes) (x .laid .sized)
+    (λ i l m. x .first i (omega (arith, b .bare .ensures)) m)
+    (P (a .f) k .turn (w .write-data .ensures k .turn (x .laid))) (s .pre .2 .size)
+
+pub lengthen-spec : {M : Type 1} → statement M
+lengthen-spec =
+    tie.close
+    (tie.spec
+    bare-requires
+    refit-requires
+    write-data-requires
+    resized-requires
+    put-fields-requires
+    same-length
+    returns)
