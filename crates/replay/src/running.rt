@@ -1,8 +1,10 @@
 // Runs a file line by line, and stops at the first line that breaks the layout.
+use crate::changing;
 use crate::reporting;
 use crate::reporting::Why;
 use crate::showing;
 use crate::showing::clip;
+use crate::showing::clip_both;
 use format::layout::LIMIT;
 use replaying::commands;
 use replaying::commands::Argument;
@@ -167,8 +169,27 @@ fn run_request(st: State, c: &mut [u8], q: &[u8], r: &mut [u8]) -> u32 {
     x.number
 }
 
+// Shows what the request changed too.
+fn run_watched(st: State, c: &mut [u8], q: &[u8], r: &mut [u8], before: &mut [u8]) -> u32 {
+    let n = clip_both(st.length, c, before);
+    octets::moves::copy(&mut before[..n], &c[..n]);
+    let number = run_request(st, c, q, r);
+    let m = clip_both(st.length, c, before);
+    changing::show(&before[..m], &c[..m]);
+    number
+}
+
+// As the word of the line asks.
+fn run_asked(watched: bool, st: State, c: &mut [u8], q: &[u8], r: &mut [u8]) -> u32 {
+    if watched {
+        let mut before = [0u8; BUFFER_SIZE];
+        return run_watched(st, c, q, r, &mut before);
+    }
+    run_request(st, c, q, r)
+}
+
 // The reply space holds AA at first, so that bytes that nobody wrote can be told.
-fn apply(s: &[u8], at: usize, st: State, c: &mut [u8], q: &[u8]) -> Step
+fn apply(s: &[u8], at: usize, st: State, c: &mut [u8], q: &[u8], watched: bool) -> Step
     requires { ⌜ at ≤ length (now s) ⌝ }
 {
     let open = st.open;
@@ -181,7 +202,7 @@ fn apply(s: &[u8], at: usize, st: State, c: &mut [u8], q: &[u8]) -> Step
             let mut r = [170u8; REPLY_SIZE];
             let k = clip(st.request, q);
             let m = clip(n as usize, &r);
-            let mut next = with_answer(st, run_request(st, c, &q[..k], &mut r[..m]));
+            let mut next = with_answer(st, run_asked(watched, st, c, &q[..k], &mut r[..m]));
             next.request = 0;
             Step::On(next)
         }
@@ -224,7 +245,8 @@ fn run_word(
         Word::Enabler => enabler(s, at, st, secret),
         Word::Create => create(s, at, st, c, node_id, secret),
         Word::Bytes => bytes(s, at, st, q),
-        Word::Apply => apply(s, at, st, c, q),
+        Word::Apply => apply(s, at, st, c, q, false),
+        Word::Watch => apply(s, at, st, c, q, true),
         Word::Expect => expect(s, at, st),
         Word::Say => {
             showing::said(&s[at..]);

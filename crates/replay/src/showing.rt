@@ -54,6 +54,13 @@ pub(crate) fn clip(n: usize, s: &[u8]) -> usize
     octets::choices::lesser(n, s.len())
 }
 
+// n, or all of s or of t where that is less.
+pub(crate) fn clip_both(n: usize, s: &[u8], t: &[u8]) -> usize
+    ensures { λ r. ⌜ Counts r (now (s .entry)) × Counts r (now (t .entry)) ⌝ }
+{
+    octets::choices::lesser(clip(n, s), t.len())
+}
+
 // A number in five columns.
 fn column(n: u64) {
     if n < 10000 {

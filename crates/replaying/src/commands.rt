@@ -22,6 +22,7 @@ pub enum Word {
     Create,
     Bytes,
     Apply,
+    Watch,
     Expect,
     Say,
     Unknown,
@@ -66,6 +67,7 @@ fn word_of(w: &[u8]) -> Word
     let mut word = Word::Unknown;
     word = pick(is(w, b"say"), Word::Say, word);
     word = pick(is(w, b"expect"), Word::Expect, word);
+    word = pick(is(w, b"watch"), Word::Watch, word);
     word = pick(is(w, b"apply"), Word::Apply, word);
     word = pick(is(w, b"bytes"), Word::Bytes, word);
     word = pick(is(w, b"create"), Word::Create, word);

@@ -7,7 +7,8 @@ use Rattle.replaying.proofs.commands.word_of.Tie as tie
 returns : tie.Need-returns
 unfolding wordOf
 returns c =
-    let c8 = c .before .before .before in
+    let c9 = c .before .before .before in
+    let c8 = c9 .before .before .before in
     let c7 = c8 .before .before .before in
     let c6 = c7 .before .before .before in
     let c5 = c6 .before .before .before in
@@ -16,8 +17,10 @@ returns c =
     let c2 = c3 .before .before .before in
     let c1 = c2 .before .before .before in
     rw (
-      c .pick9 .ensures,
-      c .before .is9 .ensures,
+      c .pick10 .ensures,
+      c .before .is10 .ensures,
+      c9 .pick9 .ensures,
+      c9 .before .is9 .ensures,
       c8 .pick8 .ensures,
       c8 .before .is8 .ensures,
       c7 .pick7 .ensures,
@@ -41,6 +44,7 @@ pub word-of-spec : {M : Type 1} → statement M
 word-of-spec =
     tie.close
     (tie.spec
+    (λ c. refl) (λ c κs. tt) (λ c κs. tt)
     (λ c. refl) (λ c κs. tt) (λ c κs. tt)
     (λ c. refl) (λ c κs. tt) (λ c κs. tt)
     (λ c. refl) (λ c κs. tt) (λ c κs. tt)
