@@ -276,6 +276,85 @@ fn p16_a_negative_offset_comes_first() {
     }
 }
 
+/// What a request touches on `ABCDE` with five leases in 571 bytes: its number, and the places of
+/// the bytes that differ afterwards.
+fn touched(request: &[u8]) -> (u32, Vec<usize>) {
+    let mut container = fresh(571);
+    assert_eq!(number(&mut container, &write(&[(0, b"ABCDE")], None)), 0);
+    for lease in 1..=5 {
+        let mut add = vec![2, 0, 0, 0, lease, 0, 0, 0, 7];
+        add.extend([lease; 64]);
+        add.extend(NODE);
+        assert_eq!(number(&mut container, &add), 0);
+    }
+    let before = container.clone();
+    let number = number(&mut container, request);
+    let changed = (0..571).filter(|place| before[*place] != container[*place]);
+    (number, changed.collect())
+}
+
+#[test]
+fn p17_inside_the_data_only_written_bytes_change() {
+    assert_eq!(touched(&write(&[(1, b"XY")], None)), (0, vec![469, 470]));
+    assert_eq!(touched(&write(&[(3, b"XY")], None)), (0, vec![471, 472]));
+    let apart = write(&[(0, b"X"), (2, b"Y")], None);
+    assert_eq!(touched(&apart), (0, vec![468, 470]));
+    assert_eq!(touched(&write(&[(1, b"BC")], None)), (0, vec![]));
+}
+
+#[test]
+fn p18_a_write_past_the_end_moves_the_extra_lease() {
+    assert_eq!(
+        touched(&write(&[(5, b"F")], None)),
+        (0, vec![91, 99, 473, 476, 477, 480, 481, 484, 485, 549, 569])
+    );
+    assert_eq!(
+        touched(&write(&[(4, b"XF")], None)),
+        (
+            0,
+            vec![91, 99, 472, 473, 476, 477, 480, 481, 484, 485, 549, 569]
+        )
+    );
+    let mut past = vec![
+        91, 99, 474, 476, 478, 480, 482, 484, 485, 486, 549, 550, 569, 570,
+    ];
+    assert_eq!(touched(&write(&[(6, b"G")], None)), (0, past.clone()));
+    past.insert(2, 473);
+    assert_eq!(touched(&write(&[(6, b"G"), (5, b"F")], None)), (0, past));
+}
+
+#[test]
+fn p19_a_cut_moves_it_back() {
+    assert_eq!(
+        touched(&write(&[], Some(4))),
+        (0, vec![91, 99, 472, 475, 476, 479, 480, 483, 484, 548, 568])
+    );
+    assert_eq!(
+        touched(&write(&[], Some(0))),
+        (
+            0,
+            vec![
+                91, 99, 468, 469, 470, 471, 472, 475, 476, 479, 481, 482, 483, 484, 544, 545, 546,
+                547, 548, 564, 565, 566, 567, 568
+            ]
+        )
+    );
+    assert_eq!(touched(&write(&[], Some(5))), (0, vec![]));
+}
+
+#[test]
+fn p20_what_is_cut_again_counts_for_nothing() {
+    assert_eq!(
+        touched(&write(&[(2, b"XYZ[")], Some(4))),
+        (
+            0,
+            vec![91, 99, 470, 471, 472, 475, 476, 479, 480, 483, 484, 548, 568]
+        )
+    );
+    assert_eq!(touched(&write(&[(9, b"X")], Some(5))), (0, vec![]));
+    assert_eq!(touched(&write(&[(7, b"G")], None)), (11, vec![]));
+}
+
 #[test]
 fn another_enabler_tells_the_node() {
     let mut request = write(&[], None);

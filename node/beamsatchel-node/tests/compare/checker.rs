@@ -3,6 +3,7 @@
 use crate::case::Case;
 use crate::looks::Look;
 use crate::tally::{Call, Tally};
+use crate::touches::Touch;
 use beamsatchel_model::{self as model, Request};
 use beamsatchel_node::ffi::{self, RawAnswer, RawShare};
 use beamsatchel_node::{Clause, Fault, View};
@@ -45,6 +46,8 @@ impl Checker {
         self.tally.outcome(call, answer.number, || show(&before));
         self.tally
             .looks(call, Look::of_case(&before, answer.number));
+        self.tally
+            .touches(Touch::of_case(&before, answer.number, case));
         answer
     }
 

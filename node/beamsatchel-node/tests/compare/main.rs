@@ -2,8 +2,9 @@
 //! whole reply space.
 //!
 //! `BEAMSATCHEL_SEED` sets another seed, `BEAMSATCHEL_CASES` a longer run. The run prints how
-//! often each outcome and each pair of outcomes was met, and where tests and reads looked; it fails
-//! where a possible one was not met, and at once where an impossible outcome is.
+//! often each outcome and each pair of outcomes was met, where tests and reads looked, and what
+//! test-and-writes touched; it fails where a possible one was not met, and at once where an
+//! impossible outcome is or a byte changed that a test-and-write leaves alone.
 
 mod case;
 mod checker;
@@ -19,6 +20,7 @@ mod share_pairs;
 mod shares;
 mod singles;
 mod tally;
+mod touches;
 mod woven;
 
 use checker::Checker;

@@ -1,6 +1,7 @@
-//! How often each outcome, each pair of outcomes and each look at the data was met.
+//! How often each outcome, each pair of outcomes, each look at the data and each touch of it was met.
 
 use crate::looks::Look;
+use crate::touches::Touch;
 use std::collections::BTreeMap;
 
 /// What was called; for apply, by the request's first byte.
@@ -86,6 +87,7 @@ pub struct Tally {
     outcomes: BTreeMap<(Call, u32), u64>,
     pairs: BTreeMap<(Call, u32, u32), u64>,
     looks: BTreeMap<(Call, Look), u64>,
+    touches: BTreeMap<Touch, u64>,
 }
 
 impl Tally {
@@ -107,6 +109,12 @@ impl Tally {
     pub fn looks(&mut self, call: Call, looks: Vec<Look>) {
         for look in looks {
             *self.looks.entry((call, look)).or_default() += 1;
+        }
+    }
+
+    pub fn touches(&mut self, touches: Vec<Touch>) {
+        for touch in touches {
+            *self.touches.entry(touch).or_default() += 1;
         }
     }
 
@@ -143,10 +151,16 @@ impl Tally {
                 .collect();
             println!("  {:>16}  {}", format!("{call:?}"), met.join(", "));
         }
-        println!();
+        println!("\nwhat test-and-writes that were done touched, and no byte elsewhere:");
+        let met: Vec<String> = self
+            .touches
+            .iter()
+            .map(|(touch, count)| format!("{touch:?}: {count}"))
+            .collect();
+        println!("  {}\n", met.join(", "));
     }
 
-    /// Every possible outcome, pair and look was met.
+    /// Every possible outcome, pair, look and touch was met.
     pub fn demand_all(&self) {
         for call in Call::ALL {
             for number in call.outcomes() {
@@ -166,6 +180,9 @@ impl Tally {
                 let met = self.looks.contains_key(&(call, look));
                 assert!(met, "{call:?}: {look:?} was never met");
             }
+        }
+        for touch in Touch::ALL {
+            assert!(self.touches.contains_key(&touch), "{touch:?} was never met");
         }
     }
 }

@@ -1,0 +1,177 @@
+//! What a test-and-write does not name it does not even store to: the pages without its bytes are
+//! read-only here while the library works, and a store to one would end the test with a signal.
+#![cfg(target_os = "linux")]
+#![allow(unsafe_code)]
+
+use beamsatchel_node::ffi;
+use std::ffi::{c_int, c_long, c_void};
+
+const NODE: [u8; 20] = [7; 20];
+const ENABLER: [u8; 32] = [0xEE; 32];
+/// The longest container.
+const LENGTH: usize = 65_536;
+/// Where a container's data begins.
+const DATA: usize = 468;
+
+extern "C" {
+    fn getpagesize() -> c_int;
+    fn mmap(
+        at: *mut c_void,
+        length: usize,
+        access: c_int,
+        flags: c_int,
+        file: c_int,
+        offset: c_long,
+    ) -> *mut c_void;
+    fn mprotect(at: *mut c_void, length: usize, access: c_int) -> c_int;
+    fn munmap(at: *mut c_void, length: usize) -> c_int;
+}
+
+const READ: c_int = 1;
+const READ_AND_WRITE: c_int = 3;
+const PRIVATE_AND_ANONYMOUS: c_int = 0x22;
+
+/// A container in pages of its own.
+struct Pages {
+    start: *mut u8,
+    page: usize,
+}
+
+impl Pages {
+    /// A container with six leases, two of them behind the data. The data ends where a page begins,
+    /// so many pages before the buffer's end.
+    fn with_data_up_to(before_the_end: usize) -> Pages {
+        // SAFETY: no memory that is in use is asked for.
+        let (page, start) = unsafe {
+            let start = mmap(
+                std::ptr::null_mut(),
+                LENGTH,
+                READ_AND_WRITE,
+                PRIVATE_AND_ANONYMOUS,
+                -1,
+                0,
+            );
+            (getpagesize() as usize, start)
+        };
+        assert_ne!(start as isize, -1, "no memory");
+        let mut slot = Pages {
+            start: start.cast(),
+            page,
+        };
+        assert!(slot.count() > 3, "pages of {page} bytes are too long");
+        assert_eq!(ffi::create(slot.bytes(), &NODE, &ENABLER).number, 0);
+        let size = (slot.count() - before_the_end) * page - DATA;
+        slot.done(&write(0, &vec![b'A'; size], None));
+        for lease in 1..=6 {
+            let mut add = vec![2, 0, 0, 0, lease, 0, 0, 0, 7];
+            add.extend([lease; 64]);
+            add.extend(NODE);
+            slot.done(&add);
+        }
+        assert_eq!(slot.size(), size);
+        slot
+    }
+
+    fn count(&self) -> usize {
+        LENGTH / self.page
+    }
+
+    fn bytes(&mut self) -> &mut [u8] {
+        // SAFETY: the pages are mapped, and borrowed by nobody else.
+        unsafe { std::slice::from_raw_parts_mut(self.start, LENGTH) }
+    }
+
+    fn size(&mut self) -> usize {
+        u64::from_be_bytes(self.bytes()[84..92].try_into().expect("eight bytes")) as usize
+    }
+
+    fn done(&mut self, request: &[u8]) {
+        let answer = ffi::apply(self.bytes(), request, &mut []);
+        assert_eq!(answer.number, 0);
+    }
+
+    /// Applies requests in turn while all pages but these are read-only.
+    fn done_on(&mut self, pages: &[usize], requests: &[Vec<u8>]) {
+        self.protect(pages, READ);
+        for request in requests {
+            self.done(request);
+        }
+        self.protect(pages, READ_AND_WRITE);
+    }
+
+    /// Sets the access of all pages but these.
+    fn protect(&mut self, pages: &[usize], access: c_int) {
+        for page in (0..self.count()).filter(|page| !pages.contains(page)) {
+            // SAFETY: this is a page of those that are mapped here, and nothing borrows it.
+            let failed = unsafe {
+                let start = self.start.add(page * self.page);
+                mprotect(start.cast(), self.page, access)
+            };
+            assert_eq!(failed, 0);
+        }
+    }
+}
+
+impl Drop for Pages {
+    fn drop(&mut self) {
+        // SAFETY: nothing borrows the pages any longer.
+        unsafe { munmap(self.start.cast(), LENGTH) };
+    }
+}
+
+/// A kind 1 request with one write.
+fn write(offset: usize, data: &[u8], cut: Option<usize>) -> Vec<u8> {
+    let mut request = vec![1, 0, 1, u8::from(cut.is_some())];
+    request.extend((cut.unwrap_or(0) as u32).to_be_bytes());
+    request.extend(ENABLER);
+    request.extend((offset as u32).to_be_bytes());
+    request.extend((data.len() as u32).to_be_bytes());
+    request.extend(data);
+    request
+}
+
+#[test]
+fn at_the_end_of_long_data_only_the_first_and_the_last_page_are_stored_to() {
+    let mut slot = Pages::with_data_up_to(1);
+    let (size, last) = (slot.size(), slot.count() - 1);
+    slot.done_on(
+        &[0, last],
+        &[
+            write(size, &[b'B'; 64], None),
+            write(size + 32, &[b'C'; 64], None),
+            write(size + 200, b"D", None),
+            write(size + 16, &[b'E'; 500], Some(size + 20)),
+            write(0, b"", Some(size)),
+        ],
+    );
+}
+
+#[test]
+fn a_write_inside_the_data_stores_to_its_own_bytes_alone() {
+    let mut slot = Pages::with_data_up_to(2);
+    let (size, last_of_data) = (slot.size(), slot.count() - 3);
+    slot.done_on(&[0], &[write(0, b"F", None)]);
+    slot.done_on(
+        &[last_of_data],
+        &[
+            write(size - 64, &[b'G'; 64], None),
+            write(size - 1, b"HI", Some(size)),
+        ],
+    );
+}
+
+#[test]
+fn neither_growth_nor_a_cut_stores_behind_the_higher_used_end() {
+    let mut slot = Pages::with_data_up_to(2);
+    let (size, behind) = (slot.size(), slot.count() - 2);
+    slot.done_on(
+        &[0, behind],
+        &[
+            write(size, &[b'J'; 64], None),
+            write(size + 300, b"K", None),
+        ],
+    );
+    slot.done_on(&[0, behind - 1, behind], &[write(0, b"", Some(size - 10))]);
+    let all_but_the_last: Vec<usize> = (0..=behind).collect();
+    slot.done_on(&all_but_the_last, &[write(0, b"", Some(0))]);
+}
