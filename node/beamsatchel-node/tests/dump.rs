@@ -519,8 +519,10 @@ fn long_dump(test: &str) -> Vec<OsString> {
 /// The writing end of a pipe whose reading end is closed: the process that had it is gone.
 fn closed_pipe() -> ChildStdin {
     let mut reader = Command::new("true").stdin(Stdio::piped()).spawn().unwrap();
-    let writer = reader.stdin.take().unwrap();
+    let mut writer = reader.stdin.take().unwrap();
     reader.wait().unwrap();
+    // A process that another test is just starting may still have the reading end.
+    while writer.write(&[0]).is_ok() {}
     writer
 }
 
