@@ -64,6 +64,25 @@ impl Slot {
         vec![grow.to_bytes(), cut.to_bytes()]
     }
 
+    /// As many appends of `count` bytes as there is room for, and the cut that undoes them all.
+    pub fn appends(&self, count: usize) -> Vec<Vec<u8>> {
+        let room = self.length - 472 - 2 * 92 - self.size;
+        let body = vec![b'D'; count];
+        let appends = (0..room / count).map(|number| {
+            let offset = (self.size + number * count) as i32;
+            checked().write(offset, &body).expect("fits").to_bytes()
+        });
+        let cut = checked().cut(self.size as u32).to_bytes();
+        appends.chain([cut]).collect()
+    }
+
+    /// One write at the end, and the cut that undoes it, so that every second call is a cut.
+    pub fn undone(&self, count: usize) -> Vec<Vec<u8>> {
+        let grow = checked().write(self.size as i32, &vec![b'E'; count]);
+        let cut = checked().cut(self.size as u32);
+        vec![grow.expect("fits").to_bytes(), cut.to_bytes()]
+    }
+
     /// Reads at random offsets inside the data.
     pub fn reads(&self, count: usize) -> Vec<Vec<u8>> {
         self.at_random(count, |offset| {
@@ -140,6 +159,12 @@ pub fn rows() -> Vec<(String, Slot, Vec<Vec<u8>>)> {
     let mut rows: Vec<_> = [
         ("write 4 KiB at random offsets", slot.writes(4096)),
         ("write 4 KiB past the end, or cut it", slot.growth(2048)),
+        ("write 64 bytes at random offsets", slot.writes(64)),
+        ("append 64 bytes, 53 times, then cut them", slot.appends(64)),
+        (
+            "write 3,392 bytes at the end, or cut it",
+            slot.undone(53 * 64),
+        ),
         ("read 4 KiB at random offsets", slot.reads(4096)),
         ("renew the last of six leases", slot.renewals()),
         ("add a lease, or cancel it", slot.lease_lives()),

@@ -31,8 +31,9 @@ pub fn test_and_write(buffer: &mut [u8], frame: Frame, request: &[u8], reply: &m
         write_reply(data, parts.tests, TEST, reply);
         return Answer::test_false(reply_length);
     }
+    let (final_size, last_gap) = parts.final_size(frame.size);
     let after = Frame {
-        size: match parts.final_size(frame.size) {
+        size: match final_size {
             size if size > buffer.len() as u64 => return Answer::refused(11),
             size => size as usize,
         },
@@ -43,24 +44,26 @@ pub fn test_and_write(buffer: &mut [u8], frame: Frame, request: &[u8], reply: &m
     }
     write_reply(data, parts.tests, TEST, reply);
     if after.size > frame.size {
-        resize(buffer, frame, after);
+        let bare = last_gap.min(final_size) as usize;
+        resize(buffer, frame, after, bare);
         parts.write(&mut buffer[468..468 + after.size]);
     } else {
         parts.write(&mut buffer[468..468 + after.size]);
-        resize(buffer, frame, after);
+        resize(buffer, frame, after, 0);
     }
     Answer::done(reply_length)
 }
 
-/// Moves count and extras to the new end of data, with zeros where they leave or uncover bytes.
-fn resize(buffer: &mut [u8], before: Frame, after: Frame) {
+/// Moves count and extras to the new end of data, with zeros where they leave bytes, or uncover some
+/// below `bare`: the writes fill the others.
+fn resize(buffer: &mut [u8], before: Frame, after: Frame, bare: usize) {
     let (old_end, new_end) = (468 + before.size, 468 + after.size);
     if old_end == new_end {
         return;
     }
     buffer.copy_within(old_end..before.used(), new_end);
     if new_end > old_end {
-        buffer[old_end..new_end].fill(0);
+        buffer[old_end..468 + bare].fill(0);
     } else {
         buffer[after.used()..before.used()].fill(0);
     }
@@ -155,15 +158,22 @@ impl<'a> Parts<'a> {
         })
     }
 
-    fn final_size(&self, size: usize) -> u64 {
+    /// The final size, and where the last gap ends that the writes leave on the way; behind it they
+    /// fill all that they add.
+    fn final_size(&self, size: usize) -> (u64, u64) {
         let mut grown = size as u64;
+        let mut last_gap = grown;
         for write in self.writes.chunks_exact(WRITE) {
-            let length = u64::from(u32_at(write, 4));
+            let (offset, length) = (u64::from(u32_at(write, 0)), u64::from(u32_at(write, 4)));
             if length > 0 {
-                grown = grown.max(u64::from(u32_at(write, 0)) + length);
+                if grown < offset {
+                    last_gap = offset;
+                }
+                grown = grown.max(offset + length);
             }
         }
-        self.cut.map_or(grown, |cut| grown.min(u64::from(cut)))
+        let final_size = self.cut.map_or(grown, |cut| grown.min(u64::from(cut)));
+        (final_size, last_gap)
     }
 
     /// Makes the writes as far as they lie below the final size.
