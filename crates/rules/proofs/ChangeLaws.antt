@@ -37,6 +37,7 @@ unfolding performAll sizeAfter
 length-performAll [] d = refl
 length-performAll (o ∷ os) d = length-performAll os (perform o d) ∙ rw length-perform
 
+-- neither of two
 neither : (a b : Bool) → cond a true b ≡ false → (a ≡ false) × (b ≡ false)
 neither true b e = absurd (true≢false e)
 neither false b e = (refl, e)

@@ -11,7 +11,7 @@ use Rattle.octets.specs.Strings.{join}
 use Rattle.octets.specs.Facts.{Octets}
 use Rattle.octets.proofs.NumberLaws.{length-digits}
 use Rattle.format.specs.Layout.{magic, sizeWidth, fixedPlaces, sizeAt, leasesAt, dataAt}
-use Rattle.format.specs.Layout.{countAt, dataOf}
+use Rattle.format.specs.Layout.{countAt, limit, dataOf}
 use Rattle.format.specs.Parts.{Parts, used, partsOf, frontOf, headOf, tailOf, encode}
 use Rattle.format.specs.View.{tailSize, Laid}
 use Rattle.format.specs.Claims.{Valid}
@@ -140,3 +140,11 @@ both-fit {frame = frame} k r =
       most = m .1;
       few = m .2;
     }
+
+-- The view afterwards has room, and its size is small.
+pub final-room : {c q : List ℕ} {frame : Frame} {t : Parted} {f : ℕ} → Known c frame → Final q t frame f (length c)
+    → (dataAt + f + tailSize (frame .extras) ≤ length c) × (f ≤ limit)
+final-room {frame = frame} {f = f} k r =
+    let u = used-is f (frame .extras) in
+    let m = known-room k in
+    (omega (arith, r .fits), omega (arith, r .fits, m .1))

@@ -1,24 +1,15 @@
 -- The view refitted, then the writes, then the fields.
-use Prim.Native.Nat.{_+_, _≤_}
 use native.Mathlib.Omega.{arith}
-use lib.ListN.{length}
 use borrow.Author.Needs.{needs}
 use Rattle.octets.specs.Facts.{Octets}
-use Rattle.format.specs.Layout.{dataAt}
 use Rattle.format.specs.View.{tailSize}
 use Rattle.format.specs.Parts.{partsOf}
-use Rattle.format.proofs.WellFormed.{used-is}
-use Rattle.format.proofs.JudgingLaws.{known-most}
 use Rattle.format.proofs.ViewLaws.{formed-laid}
 use Rattle.rules.specs.Outcomes.{after}
 use Rattle.requests.specs.Forms.{cutIn}
-use Rattle.writes.proofs.Whole.{rewritten-whole, both-fit}
+use Rattle.writes.proofs.Whole.{rewritten-whole, both-fit, final-room}
 use Rattle.writes.proofs.rewrite.lengthen.Statement.{statement}
 use Rattle.writes.proofs.rewrite.lengthen.Tie as tie
-
--- The view afterwards fits.
-room : (s : tie.Start) → let a = s .args in dataAt + a .f + tailSize (a .frame .extras) ≤ length (a .c .now)
-room s = let a = s .args in omega (arith, used-is (a .f) (a .frame .extras), s .pre .2 .fits)
 
 bare-requires : tie.Need-bare-requires
 bare-requires c κs = search needs
@@ -32,7 +23,7 @@ refit-requires c κs =
 write-data-requires : tie.Need-write-data-requires
 write-data-requires c κs =
     let s = c .before .before .before .before .before .before .before .before in
-    (omega (arith, room s), s .pre .1)
+    (omega (arith, final-room (s .pre .0) (s .pre .2)), s .pre .1)
 
 resized-requires : tie.Need-resized-requires
 resized-requires c κs = search needs
@@ -41,7 +32,7 @@ put-fields-requires : tie.Need-put-fields-requires
 put-fields-requires c κs =
     let s = c .before .before .before .before .before .before .before .before .before .before .before .before .before in
     rw (c .resized .ensures)
-    (omega (arith, room s), omega (arith, room s, known-most (s .args .c .now) (s .args .frame) (s .pre .0)))
+    (omega (arith, final-room (s .pre .0) (s .pre .2)), final-room (s .pre .0) (s .pre .2) .1)
 
 same-length : tie.Need-same-length
 same-length c = search needs
