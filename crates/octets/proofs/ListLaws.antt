@@ -4,12 +4,14 @@ use mathlib.Core.Bool.{Bool, true, false, cond, _&&_, false≢true, true≢false
 use mathlib.Core.List.{List, [], _∷_, _++_}
 use mathlib.Core.Option.{Option, none, some}
 use Prim.Native.Nat.{ℕ, zero, suc, _+_, _-_, _≤_, _<_, min}
+use native.Mathlib.Numerals.{add-one}
 use native.Mathlib.Omega.{arith}
 use lib.Dec.{ltb}
 use lib.ListN.{length, take, drop, getD, set, replicate, length-take, take-append-drop, List·getD-eq-default}
-use lib.Seq.{take-nil, take-take, take-all, take-at, drop-at, drop-drop, getD-append-add}
+use lib.ListN.{drop-of-length-le}
+use lib.Seq.{drop-cons, take-nil, take-take, take-all, take-at, drop-at, drop-drop, getD-append-add}
 use borrow.Author.Tests.{ltb-true, ltb-false}
-use Rattle.octets.specs.Lists.{every, isSome, orElse}
+use Rattle.octets.specs.Lists.{every, sum, isSome, orElse}
 use Rattle.octets.specs.Facts.{Each}
 use Rattle.octets.specs.Last.{newer, lastSaid}
 
@@ -83,6 +85,15 @@ module _ {A : Type 0} (test : A → Bool) where
   unfolding every
   each-every [] e = refl
   each-every (x ∷ xs) e = rw (e .0) (each-every xs (e .1))
+
+-- ---- sums
+pub sum-drop : (ns : List ℕ) (i : ℕ) → i < length ns → sum (drop i ns) ≡ getD ns i 0 + sum (drop (i + 1) ns)
+unfolding sum
+sum-drop ns i h = rw (add-one, drop-cons ns i 0 h)
+
+pub sum-none : (ns : List ℕ) (i : ℕ) → length ns ≤ i → sum (drop i ns) ≡ 0
+unfolding sum
+sum-none ns i h = rw (drop-of-length-le ns {i = i} h)
 
 -- ---- parts
 pub drop-take : (f n : ℕ) (l : List ℕ) → drop f (take (f + n) l) ≡ take n (drop f l)

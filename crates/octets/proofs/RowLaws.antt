@@ -1,12 +1,13 @@
 -- The first row that applies, and lists of rows one after the other. Assumes nothing.
 use mathlib.Core.Path.{_≡_, refl}
 use mathlib.Core.Bool.{Bool, true, false, cond}
-use mathlib.Core.List.{List, [], _∷_, _++_}
+use mathlib.Core.List.{List, [], _∷_, _++_, map}
 use Prim.Native.Nat.{ℕ, _<_}
 use native.Mathlib.Omega.{arith}
 use lib.Dec.{eqb}
 use borrow.Author.Tests.{eq-eqb, ne-eqb}
 use Rattle.octets.specs.Facts.{Each}
+use Rattle.octets.specs.Lists.{anyOf}
 use Rattle.octets.specs.Rows.{Row, row, firstRow}
 
 -- Every row has a number above 0.
@@ -45,3 +46,34 @@ rows-clear (r ∷ a) b h e =
     let z = clear (r .number) (r .applies) (a ++ b) (h .0) e in
     let k = rows-clear a b (h .1) (z .1) in
     (rw (z .0) (k .0), k .1)
+
+-- ---- the number is 0 or one of the rows'
+occurs-here : (x : ℕ) (ys : List ℕ) → anyOf (eqb x) (x ∷ ys) ≡ true
+unfolding anyOf
+occurs-here x ys = rw (eq-eqb x x refl)
+
+pub occurs-later : (x y : ℕ) (ys : List ℕ) → anyOf (eqb x) ys ≡ true → anyOf (eqb x) (y ∷ ys) ≡ true
+unfolding anyOf
+occurs-later x y ys h = go (eqb x y)
+  where
+    go : (t : Bool) → cond t true (anyOf (eqb x) ys) ≡ true
+    go true = refl
+    go false = h
+
+occurs-past : (x y z : ℕ) (ys : List ℕ) → anyOf (eqb x) (y ∷ ys) ≡ true → anyOf (eqb x) (y ∷ (z ∷ ys)) ≡ true
+unfolding anyOf
+occurs-past x y z ys h = go (eqb x y) h
+  where
+    go : (t : Bool) → cond t true (anyOf (eqb x) ys) ≡ true → cond t true (anyOf (eqb x) (z ∷ ys)) ≡ true
+    go true e = refl
+    go false e = occurs-later x z ys e
+
+pub first-among : (rs : List Row) → anyOf (eqb (firstRow rs)) (0 ∷ map (λ r. r .number) rs) ≡ true
+unfolding firstRow
+first-among [] = occurs-here 0 []
+first-among (r ∷ rs) = go (r .applies) (first-among rs)
+  where
+    go : (t : Bool) → anyOf (eqb (firstRow rs)) (0 ∷ map (λ x. x .number) rs) ≡ true
+        → anyOf (eqb (cond t (r .number) (firstRow rs))) (0 ∷ (r .number ∷ map (λ x. x .number) rs)) ≡ true
+    go true ih = occurs-later (r .number) 0 _ (occurs-here (r .number) _)
+    go false ih = occurs-past (firstRow rs) 0 (r .number) _ ih
