@@ -1,14 +1,13 @@
 -- Boundaries in order bound parts that lie inside the slice, for any edition of a share. Assumes nothing.
 use mathlib.Core.Path.{_≡_, refl}
 use mathlib.Core.Bool.{Bool, true, false, cond}
-use mathlib.Core.List.{List, [], _∷_, _++_}
+use mathlib.Core.List.{List, [], _∷_}
 use Prim.Native.Nat.{ℕ, zero, suc, _+_, _-_, _≤_, _<_}
 use native.Mathlib.Nat.{not-suc-le-zero}
 use native.Mathlib.Numerals.{add-one}
 use native.Mathlib.Omega.{arith}
 use lib.Dec.{leb, ltb}
-use lib.ListN.{length, take, drop, getD, length-take, length-drop, take-append-drop}
-use lib.Seq.{drop-drop}
+use lib.ListN.{length, take, drop, getD, length-take, length-drop}
 use borrow.Author.Tests.{leb-true, ltb-true}
 use Rattle.octets.proofs.ListLaws.{both}
 use Rattle.share_format.specs.Bounds.{Bound, inOrder, partOf}
@@ -34,7 +33,7 @@ below-last a (b ∷ bs) e =
     let p = both _ _ e in
     omega (arith, step (b .strict) a (b .at) (p .0), below-last (b .at) bs (p .1))
 
-first-is : (a : ℕ) (bs : List Bound) → getD (places a bs) 0 0 ≡ a
+pub first-is : (a : ℕ) (bs : List Bound) → getD (places a bs) 0 0 ≡ a
 unfolding places
 first-is a [] = refl
 first-is a (b ∷ bs) = refl
@@ -67,13 +66,3 @@ module _ (bs s : List ℕ) (i : ℕ) (h : PartInside bs (length s) i) where
   pub part-length : getD bs i 0 + length (partOf i bs s) ≡ getD bs (suc i) 0
   unfolding partOf
   part-length = simp (length-take, length-drop) (omega (arith, risen .0, risen .1))
-
-  -- A part and what comes after it.
-  pub part-on : (t : List ℕ) → t ≡ drop (getD bs (suc i) 0) s → partOf i bs s ++ t ≡ drop (getD bs i 0) s
-  unfolding partOf
-  part-on t e =
-      let a : ℕ = getD bs i 0 in
-      let n : ℕ = getD bs (suc i) 0 - a in
-      let k : a + n ≡ getD bs (suc i) 0 = omega (arith, risen .0) in
-      let q : drop (getD bs (suc i) 0) s ≡ drop n (drop a s) = rw (drop-drop n a s, k) in
-      rw (e, q) (take-append-drop n (drop a s))

@@ -1,17 +1,20 @@
 -- The hash chain's node numbers, one after the other, and the depth of the tree over the shares. Assumes nothing.
 use mathlib.Core.Path.{_≡_, refl, sym, ap}
-use mathlib.Core.Bool.{Bool, true, false, cond}
+use mathlib.Core.Bool.{Bool, true, false, cond, not, _&&_, false≢true}
 use mathlib.Core.List.{List, [], _∷_}
 use Prim.Native.Nat.{ℕ, zero, suc, _+_, _*_, _-_, _≤_, _<_}
 use native.Mathlib.Nat.{not-suc-le-zero}
 use native.Mathlib.Numerals.{add-one}
 use native.Mathlib.Omega.{arith}
-use lib.Dec.{eqb, leb}
-use borrow.Author.Tests.{leb-true, leb-false, eq-eqb, ne-eqb, lt-ltb, le-ltb, le-leb, lt-leb}
+use lib.Dec.{eqb, leb, ltb}
+use borrow.Author.Tests.{leb-true, leb-false, ltb-true, eqb-false, not-true, eq-eqb, ne-eqb, lt-ltb, le-ltb}
+use borrow.Author.Tests.{le-leb, lt-leb}
 use Rattle.octets.specs.Numbers.{numberAt}
 use Rattle.share_format.specs.Nodes.{depthFrom, depth, power, chainEntrySize, nodesFrom, nodesOk}
 use Rattle.share_format.specs.Claims.{DepthIsLeast}
+use Rattle.octets.specs.Facts.{Each, Distinct}
 use Rattle.octets.specs.Lists.{anyOf}
+use Rattle.octets.proofs.ListLaws.{both}
 
 -- ---- node numbers
 nodes-none : (n p : ℕ) (s : List ℕ) → n ≤ 0 → nodesFrom n p s ≡ []
@@ -62,6 +65,36 @@ nodes-more top x n p s h e k o = rw (nodes-some n p s h, ← e, lt-ltb _ _ k, o)
 pub nodes-end : (top n p : ℕ) (s : List ℕ) → n ≤ 0 → nodesOk top (nodesFrom n p s) ≡ true
 unfolding nodesOk
 nodes-end top n p s h = rw (nodes-none n p s h)
+
+-- The test as facts: each is below `top`, and none comes again.
+none-again : (x : ℕ) (xs : List ℕ) → anyOf (eqb x) xs ≡ false → Each (λ y. x ≡ y → ⊥) xs
+unfolding anyOf
+none-again x [] e = tt
+none-again x (y ∷ xs) e = go (eqb x y) refl e (none-again x xs)
+  where
+    go : (t : Bool) → eqb x y ≡ t → cond t true (anyOf (eqb x) xs) ≡ false
+        → (anyOf (eqb x) xs ≡ false → Each (λ z. x ≡ z → ⊥) xs) → Each (λ z. x ≡ z → ⊥) (y ∷ xs)
+    go true h k ih = absurd (false≢true (sym k))
+    go false h k ih = (eqb-false x y h, ih k)
+
+again-none : (x : ℕ) (xs : List ℕ) → Each (λ y. x ≡ y → ⊥) xs → anyOf (eqb x) xs ≡ false
+unfolding anyOf
+again-none x [] h = refl
+again-none x (y ∷ xs) h = rw (ne-eqb x y (h .0)) (again-none x xs (h .1))
+
+pub nodes-facts : (top : ℕ) (xs : List ℕ) → nodesOk top xs ≡ true → Each (λ v. v < top) xs × Distinct xs
+unfolding nodesOk
+nodes-facts top [] e = (tt, tt)
+nodes-facts top (x ∷ xs) e =
+    let a = both (ltb x top) (not (anyOf (eqb x) xs) && nodesOk top xs) e in
+    let b = both (not (anyOf (eqb x) xs)) (nodesOk top xs) (a .1) in
+    let f = nodes-facts top xs (b .1) in
+    ((ltb-true x top (a .0), f .0), (none-again x xs (not-true _ (b .0)), f .1))
+
+pub nodes-true : (top : ℕ) (xs : List ℕ) → Each (λ v. v < top) xs → Distinct xs → nodesOk top xs ≡ true
+unfolding nodesOk
+nodes-true top [] h d = refl
+nodes-true top (x ∷ xs) h d = rw (lt-ltb x top (h .0), again-none x xs (d .0)) (nodes-true top xs (h .1) (d .1))
 
 -- ---- the depth of the tree over the shares
 pub power-next : (c : ℕ) → power (c + 1) ≡ 2 * power c

@@ -1,12 +1,12 @@
 -- The rows of the table: the least multiple, the order of the offsets, and the number in two steps. Assumes nothing.
 use mathlib.Core.Path.{_≡_, refl, sym, _∙_}
-use mathlib.Core.Bool.{Bool, true, false, cond, false≢true}
+use mathlib.Core.Bool.{Bool, true, false, cond}
 use mathlib.Core.List.{List}
-use Prim.Native.Nat.{ℕ, zero, suc, _+_, _*_, _-_, _/_, _%_, _≤_, _<_}
+use Prim.Native.Nat.{ℕ, _+_, _*_, _-_, _/_, _%_, _≤_, _<_}
 use native.Mathlib.Nat.{mod-lt, mod-le, div-add-mod', add-mod-right, mul-mod-left, mul-le-mul-right, suc-mul}
 use native.Mathlib.Numerals.{add-one}
 use native.Mathlib.Omega.{arith}
-use lib.Dec.{eqb, leb, ltb}
+use lib.Dec.{eqb, leb}
 use lib.ListN.{length, getD}
 use borrow.Author.Tests.{eqb-true, eqb-false, ltb-true, ltb-false, leb-true, leb-false}
 use borrow.Author.Tests.{eq-eqb, ne-eqb, lt-ltb, le-leb, not-false}
@@ -16,7 +16,8 @@ use Rattle.octets.specs.Rows.{firstRow}
 use Rattle.share_format.specs.Bounds.{inOrder}
 use Rattle.share_format.specs.Header.{required, total, keyAt, signatureAt, chainAt, treeAt, shareDataAt}
 use Rattle.share_format.specs.Header.{privateKeyAt, endAt, boundsOf}
-use Rattle.share_format.specs.Rows.{leastMultiple, offsets, ordered, headRows, bodyRows, shareOutcome}
+use Rattle.share_format.specs.Parts.{leastMultiple}
+use Rattle.share_format.specs.Rows.{codingOk, offsets, ordered, headRows, bodyRows, shareOutcome}
 use Rattle.share_format.specs.Facts.{OrderedOffsets, PartInside}
 use Rattle.share_format.specs.Claims.{Least, MultipleIsLeast}
 use Rattle.share_format.proofs.BoundLaws.{places, lastOf, in-order-parts}
@@ -31,14 +32,7 @@ pub least-more : (k n : ℕ) → 0 < k → (n % k ≡ 0 → ⊥) → leastMultip
 unfolding leastMultiple
 least-more k n p h = rw (ne-eqb _ _ h) (omega (arith, mod-lt n p, mod-le n k))
 
-pub eqb-moved : (x y m : ℕ) → m ≤ x → eqb (x - m) y ≡ eqb x (y + m)
-eqb-moved x y m h = go (eqb x (y + m)) refl
-  where
-    go : (t : Bool) → eqb x (y + m) ≡ t → eqb (x - m) y ≡ t
-    go true e = eq-eqb (x - m) y (omega (arith, eqb-true x (y + m) e))
-    go false e = ne-eqb (x - m) y (λ z. eqb-false x (y + m) e (omega arith))
-
--- The claim about it: a multiple, at or above n, and none below it is.
+-- The claim about the least multiple: a multiple, at or above n, and none below it is.
 whole-least : (k n : ℕ) → n % k ≡ 0 → Least k n n
 whole-least k n h = record { multiple = h; reaches = omega arith; least = λ x m r. r }
 
@@ -147,9 +141,13 @@ outcome-head s h = in-steps s ∙ rw (ne-eqb _ _ h)
 pub outcome-body : (s : List ℕ) → firstRow (headRows s) ≡ 0 → shareOutcome s ≡ firstRow (bodyRows s)
 outcome-body s h = in-steps s ∙ rw (eq-eqb _ _ h)
 
-counts : (k n : ℕ) → cond (eqb k 0) true (ltb n k) ≡ false → 0 < k
-counts zero n e = absurd (false≢true (sym e))
-counts (suc k) n e = omega arith
+pub coding-facts : (k n : ℕ) → codingOk k n ≡ true → (0 < k) × (k ≤ n)
+unfolding codingOk
+coding-facts k n e = let p = both _ _ e in (ltb-true _ _ (p .0), leb-true _ _ (p .1))
+
+pub coding-true : (k n : ℕ) → 0 < k → k ≤ n → codingOk k n ≡ true
+unfolding codingOk
+coding-true k n h l = rw (lt-ltb 0 k h, le-leb k n l)
 
 pub head-facts : (s : List ℕ) → firstRow (headRows s) ≡ 0 → (keyAt ≤ length s) × (0 < required s)
 unfolding headRows
@@ -157,7 +155,7 @@ head-facts s e =
     let a = clear 21 _ _ (omega arith) e in
     let b = clear 22 _ _ (omega arith) (a .1) in
     let c = clear 23 _ _ (omega arith) (b .1) in
-    (ltb-false _ _ (a .0), counts (required s) (total s) (c .0))
+    (ltb-false _ _ (a .0), coding-facts (required s) (total s) (not-false _ (c .0)) .0)
 
 body-ordered : (s : List ℕ) → firstRow (bodyRows s) ≡ 0 → ordered s ≡ true
 unfolding bodyRows

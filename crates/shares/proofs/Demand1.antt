@@ -1,20 +1,20 @@
 -- Demand 1 of the share checks, for any bytes. Assumes nothing.
 use mathlib.Core.Path.{_≡_, refl, sym, ap, _∙_}
-use mathlib.Core.Bool.{Bool, true, false, cond}
-use mathlib.Core.List.{List, [], _∷_, _++_, map, append-nil}
+use mathlib.Core.Bool.{Bool, true, false}
+use mathlib.Core.List.{List, [], _++_, append-nil}
 use Prim.Native.Nat.{ℕ, suc, _+_, _-_, _≤_, _<_}
 use native.Mathlib.Omega.{arith}
 use lib.Dec.{eqb}
 use lib.ListN.{length, take, drop, getD, take-append-drop}
-use lib.Seq.{drop-length}
-use borrow.Author.Tests.{eqb-true, eqb-false, eq-eqb}
-use Rattle.octets.specs.Rows.{Row, firstRow}
-use Rattle.octets.proofs.ListLaws.{part-part}
+use borrow.Author.Tests.{eqb-true, eqb-false}
+use Rattle.octets.proofs.ListLaws.{both, part-part}
+use Rattle.octets.specs.Strings.{join}
+use Rattle.octets.proofs.RowLaws.{occurs-later, first-among}
 use Rattle.container.specs.Data.{lentOf, dataLent}
 use Rattle.container.proofs.DataLaws.{lends, lent-number}
-use Rattle.share_format.specs.Bounds.{partOf}
+use Rattle.share_format.specs.Bounds.{inOrder, partOf}
 use Rattle.share_format.specs.Header.{keyAt, endAt, boundsOf}
-use Rattle.share_format.specs.Rows.{headRows, bodyRows, shareOutcome}
+use Rattle.share_format.specs.Rows.{offsets, ordered, headRows, contentRows, laidRows, bodyRows, shareOutcome}
 use Rattle.shares.specs.Share.{checkedOf, checkedContainer, sharePart, partAt}
 use Rattle.shares.specs.Share.{containerPart, containerPartAt}
 use Rattle.share_format.specs.Facts.{PartInside}
@@ -22,53 +22,20 @@ use Rattle.shares.specs.Claims.{shareNumbers, containerNumbers, InTurn, 
 use Rattle.shares.proofs.ShareLaws.{checked-number, checked-refused, checked-bounds, none-empty}
 use Rattle.shares.proofs.ShareLaws.{bounds-moved, container-refused}
 use Rattle.shares.proofs.ShareLaws.{container-zero, container-none, container-shares}
-use Rattle.share_format.proofs.BoundLaws.{risen, part-length, part-on}
-use Rattle.share_format.proofs.RowLaws.{order-facts, first-bound, last-bound, bounds-inside, outcome-ordered}
+use Rattle.share_format.proofs.BoundLaws.{lastOf, risen, part-length}
+use Rattle.share_format.proofs.PackedLaws.{partsBetween, between-join}
+use Rattle.share_format.proofs.RowLaws.{first-bound, last-bound, bounds-inside, outcome-ordered}
 use Rattle.octets.specs.Lists.{anyOf}
 
 -- ---- the number is one of the rows'
-occurs-here : (x : ℕ) (ys : List ℕ) → anyOf (eqb x) (x ∷ ys) ≡ true
-unfolding anyOf
-occurs-here x ys = rw (eq-eqb x x refl)
-
-occurs-later : (x y : ℕ) (ys : List ℕ) → anyOf (eqb x) ys ≡ true → anyOf (eqb x) (y ∷ ys) ≡ true
-unfolding anyOf
-occurs-later x y ys h = go (eqb x y)
-  where
-    go : (t : Bool) → cond t true (anyOf (eqb x) ys) ≡ true
-    go true = refl
-    go false = h
-
-occurs-past : (x y z : ℕ) (ys : List ℕ) → anyOf (eqb x) (y ∷ ys) ≡ true → anyOf (eqb x) (y ∷ (z ∷ ys)) ≡ true
-unfolding anyOf
-occurs-past x y z ys h = go (eqb x y) h
-  where
-    go : (t : Bool) → cond t true (anyOf (eqb x) ys) ≡ true → cond t true (anyOf (eqb x) (z ∷ ys)) ≡ true
-    go true e = refl
-    go false e = occurs-later x z ys e
-
-first-among : (rs : List Row) → anyOf (eqb (firstRow rs)) (0 ∷ map (λ r. r .number) rs) ≡ true
-unfolding firstRow
-first-among [] = occurs-here 0 []
-first-among (r ∷ rs) = go (r .applies) (first-among rs)
-  where
-    go : (t : Bool) → anyOf (eqb (firstRow rs)) (0 ∷ map (λ x. x .number) rs) ≡ true
-        → anyOf (eqb (cond t (r .number) (firstRow rs))) (0 ∷ (r .number ∷ map (λ x. x .number) rs)) ≡ true
-    go true ih = occurs-later (r .number) 0 _ (occurs-here (r .number) _)
-    go false ih = occurs-past (firstRow rs) 0 (r .number) _ ih
-
 outcome-occurs : (s : List ℕ) → anyOf (eqb (shareOutcome s)) shareNumbers ≡ true
-unfolding shareOutcome headRows bodyRows
+unfolding shareOutcome headRows bodyRows laidRows contentRows
 outcome-occurs s = first-among (headRows s ++ bodyRows s)
 
 -- ---- a share by itself
 module _ (s : List ℕ) (z : shareOutcome s ≡ 0) where
   inside : (i : ℕ) → i < 6 → PartInside (boundsOf s) (length s) i
   inside i h = bounds-inside s i (outcome-ordered s z) h
-
-  part-then : (i : ℕ) (t : List ℕ) → i < 6 → t ≡ drop (getD (boundsOf s) (suc i) 0) s
-      → partOf i (boundsOf s) s ++ t ≡ drop (getD (boundsOf s) i 0) s
-  part-then i t h e = part-on (boundsOf s) s i (inside i h) t e
 
   joined : take keyAt s
       ++ (partOf 0 (boundsOf s) s
@@ -78,15 +45,12 @@ module _ (s : List ℕ) (z : shareOutcome s ≡ 0) where
       ++ (partOf 4 (boundsOf s) s
       ++ partOf 5 (boundsOf s) s)))))
       ≡ s
-  unfolding boundsOf
+  unfolding ordered boundsOf partOf lastOf partsBetween join
   joined =
-      let w : [] ≡ drop (endAt s) s = rw (order-facts s (outcome-ordered s z) .whole) (sym (drop-length s)) in
-      let e = sym (append-nil (partOf 5 (boundsOf s) s)) ∙ part-then 5 [] (omega arith) w in
-      let d = part-then 4 _ (omega arith) e in
-      let c = part-then 3 _ (omega arith) d in
-      let b = part-then 2 _ (omega arith) c in
-      let a = part-then 1 _ (omega arith) b in
-      ap (λ (l : List ℕ). take keyAt s ++ l) (part-then 0 _ (omega arith) a) ∙ take-append-drop keyAt s
+      let o = both (inOrder keyAt (offsets s)) (eqb (endAt s) (length s)) (outcome-ordered s z) in
+      ap (λ (l : List ℕ). take keyAt s ++ l)
+      (rw (← append-nil (partOf 5 (boundsOf s) s)) (between-join keyAt (offsets s) s (o .0) (eqb-true _ _ (o .1))))
+      ∙ take-append-drop keyAt s
 
   in-turn : InTurn s
   unfolding sharePart partAt

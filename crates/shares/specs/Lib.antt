@@ -1,4 +1,3 @@
 -- The check of the SDMF share (docs/RULES.md, S30 to S39).
 pub mod Share
-pub mod Facts
 pub mod Claims

@@ -9,7 +9,7 @@ ghost use Rattle.share_format.specs.Bounds.{partOf};
 ghost use Rattle.shares.specs.Share.{refused, boundsAt, checkedAt, checkedOf, sharePart, partAt};
 ghost use Rattle.shares.specs.Share.{checkedContainer, containerPart, containerPartAt};
 ghost use Rattle.share_format.specs.Facts.{OrderedOffsets, PartInside};
-ghost use Rattle.shares.specs.Facts.{Fits64};
+ghost use Rattle.octets.specs.Facts.{Fits64};
 
 // The outcome's number, and the boundaries of the six parts (all 0 on a refusal).
 #[repr(C)]

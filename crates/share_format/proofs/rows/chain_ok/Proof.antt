@@ -13,46 +13,27 @@ small : (c : tie.After-tree-over)
     × (1 ≤ c .tree-over .result .leaves)
     × (c .tree-over .result .leaves ≤ 256)
 small c =
-    let b = depth-bounds (c .before .total .result) (omega arith) in
+    let b = depth-bounds (c .before .before .args .total) (omega arith) in
     let e = c .tree-over .ensures in
     (omega arith, omega arith, omega arith)
-
-total-requires : tie.Need-total-requires
-total-requires c κs = search needs
 
 tree-over-requires : tie.Need-tree-over-requires
 tree-over-requires c κs = search needs
 
-chain-at-requires : tie.Need-chain-at-requires
-chain-at-requires c κs = search needs
-
-tree-at-requires : tie.Need-tree-at-requires
-tree-at-requires c κs = search needs
-
-sub-size : tie.Need-sub-size
-sub-size c = search needs
-
 mul-if1 : tie.Need-mul-if1
-mul-if1 c = let h = small (c .before .before .before) in omega arith
+mul-if1 c = let h = small (c .before) in omega arith
 
 returns : tie.Need-returns
 unfolding chainOk
 returns c =
-    let t = c .before .before in
-    let o = t .before .before in
-    rw (
-      ← t .tree-at .ensures,
-      ← t .before .chain-at .ensures,
-      ← o .before .total .ensures,
-      ← o .tree-over .ensures .0,
-      ne-eqb _ _ (c .if1 .taken),
-    )
+    let o = c .before .before in
+    rw (← o .tree-over .ensures .0, ne-eqb _ _ (c .if1 .taken))
 
 mul-nodes-ok : tie.Need-mul-nodes-ok
-mul-nodes-ok c = let h = small (c .before .before .before .before .before) in omega arith
+mul-nodes-ok c = let h = small (c .before .before .before) in omega arith
 
 sub-nodes-ok : tie.Need-sub-nodes-ok
-sub-nodes-ok c = let h = small (c .before .before .before .before .before) in omega arith
+sub-nodes-ok c = let h = small (c .before .before .before) in omega arith
 
 nodes-ok-requires : tie.Need-nodes-ok-requires
 nodes-ok-requires c κs = search needs
@@ -61,27 +42,14 @@ returns-2 : tie.Need-returns-2
 unfolding chainOk
 returns-2 c =
     let d = c .before .before in
-    let t = d .before .before in
-    let o = t .before .before in
-    rw (
-      ← t .tree-at .ensures,
-      ← t .before .chain-at .ensures,
-      ← o .before .total .ensures,
-      ← o .tree-over .ensures .1,
-      ← o .tree-over .ensures .0,
-      eq-eqb _ _ (d .if1 .left),
-    )
-    (c .nodes-ok .ensures)
+    let o = d .before .before in
+    rw (← o .tree-over .ensures .1, ← o .tree-over .ensures .0, eq-eqb _ _ (d .if1 .left)) (c .nodes-ok .ensures)
 
 pub chain-ok-spec : {M : Type 1} → statement M
 chain-ok-spec =
     tie.close
     (tie.spec
-    total-requires
     tree-over-requires
-    chain-at-requires
-    tree-at-requires
-    sub-size
     mul-if1
     returns
     mul-nodes-ok
