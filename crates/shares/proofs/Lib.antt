@@ -1,3 +1,4 @@
--- What the checker answers, and demand 1 of it.
+-- What the checker answers, demand 1 of it, and the round trips of checker and writer.
 pub mod ShareLaws
 pub mod Demand1
+pub mod RoundTrip

@@ -1,12 +1,17 @@
--- What is claimed of the share checks (demand 1; docs/RULES.md, D1). Proved in proofs/.
+-- What is claimed of the share checks (demand 1; docs/RULES.md, D1), and of check and writer together (D8). Proved in
+-- proofs/.
 use mathlib.Core.Path.{_≡_}
-use Prim.Native.Nat.{ℕ, suc, _+_, _<_}
+use Prim.Native.Nat.{ℕ, suc, _+_, _≤_, _<_}
 use mathlib.Core.List.{List, [], _∷_, _++_}
-use lib.ListN.{length, take}
+use lib.ListN.{length, take, drop}
 use Rattle.container.specs.Data.{lentOf, dataLent}
 use Rattle.share_format.specs.Header.{keyAt}
 use Rattle.shares.specs.Share.{checkedOf, sharePart, partAt, checkedContainer, containerPart, containerPartAt}
-use Rattle.octets.specs.Facts.{Among}
+use Rattle.shares.specs.Share.{handedBack}
+use Rattle.octets.specs.Facts.{Among, Octets, Fits64}
+use Rattle.share_format.specs.Claims.{OctetShare}
+use Rattle.share_format.specs.Parts.{Share, encode}
+use Rattle.share_writing.specs.Writing.{writtenAnswer, spaceAfter}
 
 -- The numbers of the table for a share, and for a container that holds one.
 abbrev pub shareNumbers : List ℕ
@@ -51,3 +56,19 @@ pub record Demand1Container (c : List ℕ) : Type 0 where
   -- accepted: the parts of the share that the data are, as parts of the container
   pub accepted : checkedContainer c .number ≡ 0 → (i : ℕ) → i < 6
       → (containerPart i c ≡ sharePart i (dataLent c)) × (containerPartAt i c ≡ lentOf c .from + partAt i (dataLent c))
+
+-- Both round trips between a share's bytes and its numbers and parts (D8).
+pub record ShareRoundTrip : Type 0 where
+  -- what the writer writes is accepted, and handed back as the same numbers and parts; a sequence number has 64 bits
+  pub written : (x : Share) (d : List ℕ) → Fits64 (x .sequence) → writtenAnswer x (length d) .number ≡ 0 →
+      let s : List ℕ = take (writtenAnswer x (length d) .length) (spaceAfter x d) in
+      (checkedOf s .number ≡ 0) × (handedBack s ≡ x)
+  -- what is accepted, written again from its own numbers and parts into any space that is long enough, is the same
+  -- share, and the bytes behind it stay
+  pub again : (s d : List ℕ) → Octets s → checkedOf s .number ≡ 0 → length s ≤ length d →
+      (writtenAnswer (handedBack s) (length d) .number ≡ 0)
+      × (writtenAnswer (handedBack s) (length d) .length ≡ length s)
+      × (spaceAfter (handedBack s) d ≡ s ++ drop (length s) d)
+  -- numbers and parts made of bytes are written as bytes, and bytes are handed back as such
+  pub octets : (x : Share) → OctetShare x → Octets (encode x)
+  pub octet-parts : (s : List ℕ) → Octets s → checkedOf s .number ≡ 0 → OctetShare (handedBack s)

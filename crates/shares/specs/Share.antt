@@ -1,4 +1,4 @@
--- What the checker answers for a share's bytes, and for a container that holds a share as its data (S35 to S39).
+-- What the checker answers for a share's bytes, and for a container that holds a share as its data (S35 to S40).
 use Prim.Native.Nat.{ℕ, _+_}
 use mathlib.Core.Bool.{cond}
 use mathlib.Core.List.{List, map}
@@ -7,6 +7,7 @@ use lib.Dec.{eqb}
 use Rattle.container.specs.Data.{lentOf, dataLent}
 use Rattle.share_format.specs.Bounds.{partOf}
 use Rattle.share_format.specs.Header.{boundsOf}
+use Rattle.share_format.specs.Parts.{Share, readBy}
 use Rattle.share_format.specs.Rows.{shareOutcome}
 use Rattle.shares.specs.declared.share.Checked.{Checked}
 
@@ -33,6 +34,10 @@ sharePart i s = partOf i (checkedOf s .bounds) s
 
 unfoldable pub partAt : ℕ → List ℕ → ℕ
 partAt i s = getD (checkedOf s .bounds) i 0
+
+-- A share as the check hands it back: the header's numbers, and the six parts (S35, S40).
+unfoldable pub handedBack : List ℕ → Share
+handedBack s = readBy (checkedOf s .bounds) s
 
 -- A share in a container is judged after it, so 1 or 2 comes first; bounds count from its first byte (S37 to S39).
 unfoldable pub checkedContainer : List ℕ → Checked
