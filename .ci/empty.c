@@ -14,7 +14,7 @@ static void same(const char *function, unsigned which, const void *left, const v
     }
 }
 
-/* The structs have no padding but behind `number` of the share, which memset settles. */
+/* Of the structs that are compared as bytes only this one has padding, behind `number`, which memset settles. */
 static beamsatchel_share clean(beamsatchel_share share)
 {
     beamsatchel_share copy;
@@ -22,6 +22,51 @@ static beamsatchel_share clean(beamsatchel_share share)
     copy.number = share.number;
     memcpy(copy.bounds, share.bounds, sizeof copy.bounds);
     return copy;
+}
+
+/* The slices of beamsatchel_write_share: R, IV, the six parts, the space. */
+enum { SLICES = 9, SPACE = 8 };
+
+/* Writes a share without data, of N = 1, into space of 250 bytes; `answer` is number and length. Bit i of `which` says
+ * that slice i is empty, and has this pointer. */
+static void write_share(unsigned which, uint8_t *pointer, uint8_t *space, uint64_t answer[2])
+{
+    static uint8_t bytes[34];
+    static const size_t lengths[SLICES] = {32, 16, 1, 1, 34, 32, 1, 1, 250};
+    uint8_t *at[SLICES];
+    size_t length[SLICES];
+    beamsatchel_written written;
+
+    for (int i = 0; i < SLICES; i++) {
+        int empty = which >> i & 1;
+        at[i] = empty ? pointer : i == SPACE ? space : bytes;
+        length[i] = empty ? 0 : lengths[i];
+    }
+    written = beamsatchel_write_share(1, at[0], length[0], at[1], length[1], 1, 1, 0, at[2], length[2],
+                                      at[3], length[3], at[4], length[4], at[5], length[5],
+                                      at[6], length[6], at[7], length[7], at[SPACE], length[SPACE]);
+    answer[0] = written.number;
+    answer[1] = written.length;
+}
+
+/* Two of them are good: without chain and share data, and with or without a tree. */
+static void write_shares(uint8_t *any)
+{
+    int good = 0;
+
+    for (unsigned which = 1; which < 1u << SLICES; which++) {
+        uint8_t left[250] = {0}, right[250] = {0};
+        uint64_t null[2], other[2];
+        write_share(which, NULL, left, null);
+        write_share(which, any, right, other);
+        same("write_share", which, null, other, sizeof null);
+        same("write_share", which, left, right, sizeof left);
+        good += null[0] == BEAMSATCHEL_DONE;
+    }
+    if (good != 2) {
+        printf("write_share: %d shares were written, and 2 are good\n", good);
+        failed = 1;
+    }
 }
 
 int main(void)
@@ -68,5 +113,6 @@ int main(void)
     null_share = clean(beamsatchel_check_container(NULL, 0));
     other_share = clean(beamsatchel_check_container(any, 0));
     same("check_container", 1, &null_share, &other_share, sizeof null_share);
+    write_shares(any);
     return failed;
 }

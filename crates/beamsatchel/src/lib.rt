@@ -3,7 +3,10 @@ ghost use mathlib.Core.Path.{_≡_};
 ghost use Rattle.rules.specs.Outcomes.{createAnswer, createdContainer, answered, containerAfter, replyAfter};
 ghost use Rattle.container.specs.Looking.{readOf};
 ghost use Rattle.shares.specs.Share.{checkedOf, checkedContainer};
+ghost use lib.ListN.{length};
+ghost use Rattle.share_writing.specs.Writing.{shareWith, writtenAnswer, spaceAfter};
 use rules::Answer;
+use share_writing::Written;
 use shares::share::Checked;
 
 #[no_mangle]
@@ -43,4 +46,50 @@ pub extern "C" fn beamsatchel_check_container(c: &[u8]) -> Checked
     ensures { λ r. ⌜ r ≡ checkedContainer (now (c .entry)) ⌝ }
 {
     shares::share::check_container(c)
+}
+
+#[no_mangle]
+pub extern "C" fn beamsatchel_write_share(
+    sequence: u64,
+    root: &[u8],
+    iv: &[u8],
+    required: u8,
+    total: u8,
+    data_length: u64,
+    key: &[u8],
+    signature: &[u8],
+    chain: &[u8],
+    tree: &[u8],
+    share_data: &[u8],
+    private_key: &[u8],
+    d: &mut [u8],
+) -> Written
+    ensures answer { λ r. ⌜ r
+        ≡ writtenAnswer
+        (shareWith sequence (now (root .entry)) (now (iv .entry)) required total data_length (now (key .entry))
+        (now (signature .entry)) (now (chain .entry)) (now (tree .entry)) (now (share_data .entry))
+        (now («private_key» .entry)))
+        (length (now (d .entry))) ⌝ }
+    ensures space { λ _. ⌜ now (d .exit)
+        ≡ spaceAfter
+        (shareWith sequence (now (root .entry)) (now (iv .entry)) required total data_length (now (key .entry))
+        (now (signature .entry)) (now (chain .entry)) (now (tree .entry)) (now (share_data .entry))
+        (now («private_key» .entry)))
+        (now (d .entry)) ⌝ }
+{
+    share_writing::write_share(
+        sequence,
+        root,
+        iv,
+        required,
+        total,
+        data_length,
+        key,
+        signature,
+        chain,
+        tree,
+        share_data,
+        private_key,
+        d,
+    )
 }
