@@ -1,4 +1,7 @@
-// Shares and containers built byte by byte, one line a case: its name, the number, the lengths of the six parts.
+// Shares and containers built byte by byte, one line a case: its name, the number, the lengths of the six parts. Then
+// shares that the writer writes.
+mod writing;
+
 use octets::moves;
 use octets::numbers;
 use shares::share;
@@ -282,4 +285,5 @@ fn main() {
     lower_first();
     edges();
     containers();
+    writing::run();
 }
