@@ -4,8 +4,10 @@
 mod data;
 mod frame;
 mod leases;
+mod new_share;
 mod share;
 
+pub use new_share::write_share;
 pub use share::{check_container, check_share};
 
 use super::{Answer, LENGTHS};

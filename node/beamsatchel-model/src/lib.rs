@@ -11,6 +11,7 @@ mod bytes;
 mod container;
 mod create;
 pub mod fast;
+mod new_share;
 mod request;
 mod share;
 
@@ -18,5 +19,6 @@ pub use answer::Answer;
 pub use apply::apply;
 pub use container::{Container, Lease, LENGTHS, MAGIC};
 pub use create::create;
+pub use new_share::{write_share, NewShare, WrittenShare};
 pub use request::{Read, Request, Test, TestAndWrite, Write};
 pub use share::{check_container, check_share, Share};

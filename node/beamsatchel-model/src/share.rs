@@ -64,8 +64,7 @@ pub fn check_share(share: &[u8]) -> Share {
     }
     // 24: the segment size is the data length, rounded up to a multiple of k. It is a number: one
     // of 2^64 or more equals no field.
-    let least_multiple = u128::from(data_length.div_ceil(u64::from(k))) * u128::from(k);
-    if u128::from(segment_size) != least_multiple {
+    if u128::from(segment_size) != least_multiple(k, data_length) {
         return Share::refused(24);
     }
     // 25: the parts lie in order and up to the share's last byte; key, signature and private key
@@ -85,8 +84,7 @@ pub fn check_share(share: &[u8]) -> Share {
         return Share::refused(26);
     }
     // 27: the tree is one hash; without data it may be missing.
-    let tree_length = share_data - tree;
-    if tree_length != 32 && !(data_length == 0 && tree_length == 0) {
+    if !tree_is_good(share_data - tree, data_length) {
         return Share::refused(27);
     }
     // 28: each of k shares has its part of the segment.
@@ -103,9 +101,19 @@ pub fn check_share(share: &[u8]) -> Share {
     }
 }
 
+/// The least multiple of k, which is not 0, at or above the data length.
+pub(crate) fn least_multiple(k: u8, data_length: u64) -> u128 {
+    u128::from(data_length).div_ceil(u128::from(k)) * u128::from(k)
+}
+
+/// One hash, or nothing where there is no data.
+pub(crate) fn tree_is_good(tree_length: u64, data_length: u64) -> bool {
+    tree_length == 32 || (data_length == 0 && tree_length == 0)
+}
+
 /// A tree over N shares, with leaves up to the next power of two, 2^c: the chain has c entries,
 /// each a node number and a hash, and the numbers differ and are those of nodes of the tree.
-fn chain_is_good(chain: &[u8], n: u8) -> bool {
+pub(crate) fn chain_is_good(chain: &[u8], n: u8) -> bool {
     let leaves = usize::from(n).next_power_of_two();
     let c = leaves.trailing_zeros() as usize;
     let numbers: Vec<u16> = chain

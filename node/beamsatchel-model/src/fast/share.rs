@@ -61,7 +61,7 @@ fn judge(share: &[u8]) -> Result<[u64; 7], u32> {
     Ok([107, signature, chain, tree, data, private_key, end])
 }
 
-fn chain_is_good(chain: &[u8], n: u8) -> bool {
+pub fn chain_is_good(chain: &[u8], n: u8) -> bool {
     let leaves = usize::from(n).next_power_of_two();
     if chain.len() != 34 * leaves.trailing_zeros() as usize {
         return false;
