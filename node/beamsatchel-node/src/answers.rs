@@ -3,10 +3,11 @@
 use crate::container::NodeId;
 use crate::ffi::RawAnswer;
 use crate::requests::BuildError;
+use crate::shares::NewShareError;
 use std::fmt;
 
-/// Why a call was refused: the outcomes 1 to 5 and 7 to 12 for containers and 21 to 29 for shares. Outcome 0, done, is
-/// no refusal, and no outcome has the number 6.
+/// Why a call was refused: the outcomes 1 to 5 and 7 to 12 for containers and 21 to 29 for shares that are checked.
+/// Outcome 0, done, is no refusal, and no outcome has the number 6. Why a share is not written, [`NewShareError`] says.
 ///
 /// Where several apply, the lowest number is given.
 ///
@@ -147,7 +148,7 @@ pub(crate) fn outcome(number: u32) -> Result<(), Reason> {
 }
 
 /// This crate's library gives outcomes alone, so another one is linked.
-fn no_outcome(number: u32) -> ! {
+pub(crate) fn no_outcome(number: u32) -> ! {
     panic!("the library answered {number}, which is no outcome: is the archive of another version?")
 }
 
@@ -245,7 +246,7 @@ impl fmt::Display for Refusal {
 
 impl std::error::Error for Refusal {}
 
-/// Whatever can go wrong: a request that cannot be built, or one that is refused.
+/// Whatever can go wrong: a request that cannot be built, a call that is refused, a share that is not written.
 ///
 /// ```
 /// use beamsatchel_node::{Container, Error, NodeId, TestAndWrite, WriteEnabler};
@@ -266,6 +267,8 @@ pub enum Error {
     Refused(Refusal),
     /// A builder took no more.
     NotBuilt(BuildError),
+    /// The library wrote no share.
+    ShareNotWritten(NewShareError),
 }
 
 impl fmt::Display for Error {
@@ -273,6 +276,7 @@ impl fmt::Display for Error {
         match self {
             Error::Refused(refusal) => refusal.fmt(f),
             Error::NotBuilt(error) => error.fmt(f),
+            Error::ShareNotWritten(error) => error.fmt(f),
         }
     }
 }
@@ -288,6 +292,12 @@ impl From<Refusal> for Error {
 impl From<BuildError> for Error {
     fn from(error: BuildError) -> Error {
         Error::NotBuilt(error)
+    }
+}
+
+impl From<NewShareError> for Error {
+    fn from(error: NewShareError) -> Error {
+        Error::ShareNotWritten(error)
     }
 }
 

@@ -1,9 +1,11 @@
-//! The boundary: the five C-callable functions of the proved library, on slices.
+//! The boundary: the six C-callable functions of the proved library, on slices.
 //!
 //! Everything `unsafe` of this crate stands here. The functions take any bytes, of any length; a node's programmer
-//! will rather use [`Container`](crate::Container) and [`Share`](crate::Share).
+//! will rather use [`Container`](crate::Container), [`Share`](crate::Share) and [`NewShare`](crate::NewShare).
 
 #![allow(unsafe_code)]
+
+use std::fmt;
 
 /// `beamsatchel_answer` of `include/beamsatchel.h`.
 #[repr(C)]
@@ -30,8 +32,72 @@ pub struct RawShare {
     pub bounds: [u64; 7],
 }
 
-// The sizes that a C compiler gives the two structs.
+/// `beamsatchel_written` of `include/beamsatchel.h`.
+#[repr(C)]
+#[derive(Clone, Copy, Debug, PartialEq, Eq)]
+#[must_use]
+pub struct RawWrittenShare {
+    /// The outcome's number.
+    pub number: u32,
+    /// The share's length on 0, else 0.
+    pub length: u64,
+}
+
+// The sizes that a C compiler gives the structs.
 const _: () = assert!(size_of::<RawAnswer>() == 32 && size_of::<RawShare>() == 64);
+const _: () = assert!(size_of::<RawWrittenShare>() == 16);
+
+/// What [`write_share`] writes a share from, by name: any numbers, and slices of any length.
+#[derive(Clone, Copy, PartialEq, Eq)]
+pub struct ShareArguments<'a> {
+    /// The sequence number.
+    pub sequence_number: u64,
+    /// R, the root hash.
+    pub root_hash: &'a [u8],
+    /// IV, the initialization vector.
+    pub iv: &'a [u8],
+    /// k, how many shares are needed.
+    pub k: u8,
+    /// N, how many shares there are.
+    pub n: u8,
+    /// The data length.
+    pub data_length: u64,
+    /// The first part.
+    pub verification_key: &'a [u8],
+    /// The second part.
+    pub signature: &'a [u8],
+    /// The third part.
+    pub hash_chain: &'a [u8],
+    /// The fourth part.
+    pub block_tree: &'a [u8],
+    /// The fifth part.
+    pub share_data: &'a [u8],
+    /// The sixth part.
+    pub encrypted_private_key: &'a [u8],
+}
+
+/// Numbers and lengths, as of a [`NewShare`](crate::NewShare).
+impl fmt::Debug for ShareArguments<'_> {
+    fn fmt(&self, f: &mut fmt::Formatter<'_>) -> fmt::Result {
+        let parts = [
+            self.verification_key,
+            self.signature,
+            self.hash_chain,
+            self.block_tree,
+            self.share_data,
+            self.encrypted_private_key,
+        ];
+        f.debug_struct("ShareArguments")
+            .field("sequence_number", &self.sequence_number)
+            .field("root_hash_len", &self.root_hash.len())
+            .field("iv_len", &self.iv.len())
+            .field("k", &self.k)
+            .field("n", &self.n)
+            .field("data_length", &self.data_length)
+            .field("part_lens", &parts.map(<[u8]>::len))
+            .finish_non_exhaustive()
+    }
+}
 
 // The declarations of include/beamsatchel.h. Each takes pointer and length for each slice and
 // keeps neither after it returns.
@@ -66,6 +132,31 @@ unsafe extern "C" {
     fn beamsatchel_check_share(share: *const u8, share_len: usize) -> RawShare;
 
     fn beamsatchel_check_container(container: *const u8, container_len: usize) -> RawShare;
+
+    fn beamsatchel_write_share(
+        sequence_number: u64,
+        root_hash: *const u8,
+        root_hash_len: usize,
+        iv: *const u8,
+        iv_len: usize,
+        k: u8,
+        n: u8,
+        data_length: u64,
+        verification_key: *const u8,
+        verification_key_len: usize,
+        signature: *const u8,
+        signature_len: usize,
+        hash_chain: *const u8,
+        hash_chain_len: usize,
+        block_tree: *const u8,
+        block_tree_len: usize,
+        share_data: *const u8,
+        share_data_len: usize,
+        encrypted_private_key: *const u8,
+        encrypted_private_key_len: usize,
+        space: *mut u8,
+        space_len: usize,
+    ) -> RawWrittenShare;
 }
 
 /// Create, from a node id and a write enabler of any length.
@@ -157,4 +248,60 @@ pub fn check_share(share: &[u8]) -> RawShare {
 pub fn check_container(container: &[u8]) -> RawShare {
     // SAFETY: pointer and length come from one live slice, never null, which is only read.
     unsafe { beamsatchel_check_container(container.as_ptr(), container.len()) }
+}
+
+/// Writes a share into the first bytes of the space. On a refusal no byte of the space changes, and on 0 none behind
+/// the share.
+///
+/// ```
+/// use beamsatchel_node::ffi::{self, ShareArguments};
+///
+/// let share = ShareArguments {
+///     sequence_number: 1,
+///     root_hash: &[0x52; 32],
+///     iv: &[0x49; 15],
+///     k: 1,
+///     n: 1,
+///     data_length: 0,
+///     verification_key: b"K",
+///     signature: b"S",
+///     hash_chain: b"",
+///     block_tree: b"",
+///     share_data: b"",
+///     encrypted_private_key: b"P",
+/// };
+/// let mut space = [0; 110];
+/// assert_eq!(ffi::write_share(&share, &mut space).number, 3);
+/// let share = ShareArguments { iv: &[0x49; 16], ..share };
+/// let written = ffi::write_share(&share, &mut space);
+/// assert_eq!((written.number, written.length), (0, 110));
+/// ```
+pub fn write_share(share: &ShareArguments<'_>, space: &mut [u8]) -> RawWrittenShare {
+    // SAFETY: as for `create`; all but the space are only read, and the `&mut` slice overlaps none of them.
+    unsafe {
+        beamsatchel_write_share(
+            share.sequence_number,
+            share.root_hash.as_ptr(),
+            share.root_hash.len(),
+            share.iv.as_ptr(),
+            share.iv.len(),
+            share.k,
+            share.n,
+            share.data_length,
+            share.verification_key.as_ptr(),
+            share.verification_key.len(),
+            share.signature.as_ptr(),
+            share.signature.len(),
+            share.hash_chain.as_ptr(),
+            share.hash_chain.len(),
+            share.block_tree.as_ptr(),
+            share.block_tree.len(),
+            share.share_data.as_ptr(),
+            share.share_data.len(),
+            share.encrypted_private_key.as_ptr(),
+            share.encrypted_private_key.len(),
+            space.as_mut_ptr(),
+            space.len(),
+        )
+    }
 }

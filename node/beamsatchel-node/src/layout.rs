@@ -35,11 +35,11 @@ pub mod share {
     pub const SEQUENCE_NUMBER: usize = 1;
     /// R, the root hash, in 32 bytes.
     pub const ROOT_HASH: usize = 9;
-    /// The initialization vector, in 16 bytes.
+    /// IV, the initialization vector, in 16 bytes.
     pub const IV: usize = 41;
-    /// How many shares are needed.
+    /// k, how many shares are needed.
     pub const K: usize = 57;
-    /// How many shares there are.
+    /// N, how many shares there are.
     pub const N: usize = 58;
     /// The segment size, in 8 bytes.
     pub const SEGMENT_SIZE: usize = 59;

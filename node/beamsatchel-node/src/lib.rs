@@ -1,9 +1,11 @@
 //! The Beamsatchel slot container, for a Rust storage node.
 //!
 //! A [`Container`] is one Tahoe-LAFS mutable slot in a buffer that the node lends or hands over. The rules are those of
-//! `docs/RULES.md`, and the work is done by the proved library behind five C-callable functions; this crate gives them
-//! types. Whatever bytes arrive as container, request or reply space, every call ends in one of the numbered outcomes
-//! (done, or a [`Reason`]), and a refused request changes no byte of the container.
+//! `docs/RULES.md`, and the work is done by the proved library behind six C-callable functions; this crate gives them
+//! types. Whatever bytes arrive, every call ends in one of the numbered outcomes: done, or a [`Reason`], or a
+//! [`NewShareError`] where a share was to be written. A refused request changes no byte of the container, and a share
+//! that is not written no byte of the space for it. A slot's data is usually an SDMF share: [`Share`] checks one, and
+//! [`NewShare`] writes one.
 //!
 //! ```
 //! use beamsatchel_node::{Container, NodeId, Opcode, ReadData, TestAndWrite, WriteEnabler};
@@ -47,7 +49,7 @@
 //! it, at first and whenever a source has changed; cargo tells that by the files' times, as for sources in Rust. From
 //! nothing that takes minutes, in which cargo shows nothing. On a machine without the Rattle kit, `BEAMSATCHEL_ARCHIVE`
 //! names an archive that was made elsewhere, of the same version as this crate; a relative path is relative to where
-//! cargo is started.
+//! cargo is started. One of another version may link all the same: only a program that calls what it lacks does not.
 
 #![warn(missing_docs)]
 
@@ -65,4 +67,4 @@ pub use container::{Container, Lease, NodeId, View};
 pub use faults::{Clause, Fault};
 pub use requests::{AddLease, BuildError, CancelLease, Opcode, ReadData, RenewLease, TestAndWrite};
 pub use secrets::{CancelToken, RenewalToken, WriteEnabler};
-pub use shares::Share;
+pub use shares::{NewShare, NewShareError, Share};

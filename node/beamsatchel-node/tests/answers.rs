@@ -6,9 +6,9 @@ mod common;
 
 use beamsatchel_node::ffi::RawAnswer;
 use beamsatchel_node::{
-    Answer, BuildError, Container, Error, Reason, Reply, TestAndWrite, Written,
+    Answer, BuildError, Container, Error, NewShareError, Reason, Reply, TestAndWrite, Written,
 };
-use common::{fresh, ENABLER, NODE};
+use common::{fresh, new_share, ENABLER, NODE};
 
 /// Every reason with its number and what it says.
 const REASONS: [(Reason, u32, &str); 20] = [
@@ -128,6 +128,10 @@ fn every_error_converts_into_one() {
         Err(BuildError::TooLong)?;
         Ok(())
     }
+    fn write() -> Result<(), Error> {
+        new_share().write(&mut [])?;
+        Ok(())
+    }
     let refused = refuse().unwrap_err();
     let Error::Refused(refusal) = refused else {
         panic!("{refused}");
@@ -140,18 +144,26 @@ fn every_error_converts_into_one() {
     let not_built = build().unwrap_err();
     assert_eq!(not_built, Error::NotBuilt(BuildError::TooLong));
     assert_eq!(not_built.to_string(), "a request has at most 65,536 bytes");
+    let not_written = write().unwrap_err();
+    assert_eq!(not_written, Error::ShareNotWritten(NewShareError::Space));
+    assert_eq!(
+        not_written.to_string(),
+        "7: The space is shorter than the share."
+    );
 
     // All of them are errors for those who box them. `done` is none of them.
-    let boxed: [Box<dyn std::error::Error + Send + Sync>; 3] = [
+    let boxed: [Box<dyn std::error::Error + Send + Sync>; 4] = [
         refused.into(),
         refusal.into(),
         BuildError::TooManyEntries.into(),
+        NewShareError::Coding.into(),
     ];
     assert_eq!(
         boxed.map(|error| error.to_string())[1..],
         [
             "2: The buffer does not hold a well-formed container.",
-            "a request has at most 16 entries of a sort"
+            "a request has at most 16 entries of a sort",
+            "23: The share's k is 0 or above its N."
         ]
     );
 }
@@ -262,7 +274,7 @@ fn dropping_is_warned_of() {
 #[test]
 fn more_may_come() {
     match Error::NotBuilt(BuildError::TooLong) {
-        Error::Refused(_) | Error::NotBuilt(_) => {}
+        Error::Refused(_) | Error::NotBuilt(_) | Error::ShareNotWritten(_) => {}
         _ => unreachable!(),
     }
     for (reason, ..) in REASONS {

@@ -1,8 +1,10 @@
-//! Bad input through each of the five functions of the C interface: empty slices and lengths at the edges of what is
+//! Bad input through each of the six functions of the C interface: empty slices and lengths at the edges of what is
 //! allowed, for every argument.
 
+mod common;
+
 use beamsatchel_model as model;
-use beamsatchel_node::ffi;
+use beamsatchel_node::ffi::{self, ShareArguments};
 
 const LENGTHS: [usize; 8] = [0, 1, 471, 472, 473, 65_535, 65_536, 65_537];
 const ENABLER: [u8; 32] = [0xEE; 32];
@@ -129,5 +131,50 @@ fn checks_take_any_lengths() {
         let bare = ffi::check_share(&buffer);
         assert_eq!(bare.number, model::check_share(&buffer).number);
         assert_eq!((in_container.bounds, bare.bounds), ([0; 7], [0; 7]));
+    }
+}
+
+/// Every slice of the writer at each length, beside good ones and beside empty ones; every length of the space.
+#[test]
+fn write_share_takes_any_lengths() {
+    let bytes = vec![0; 65_537];
+    // R, IV and the six parts of a share of k = 1 and N = 2, whose one node number is 0.
+    let good = [32, 16, 292, 256, 34, 32, 10, 1216];
+    let mut lengths = vec![good, [0; 8]];
+    for slice in 0..8 {
+        for length in [0, 1, 15, 16, 17, 31, 32, 33, 34, 35, 65_537] {
+            for mut beside in [good, [0; 8]] {
+                beside[slice] = length;
+                lengths.push(beside);
+            }
+        }
+    }
+    let mut met = [0; 30];
+    for lengths in lengths {
+        let slices = lengths.map(|length| &bytes[..length]);
+        let needed = 107 + lengths[2..].iter().sum::<usize>();
+        for space in [0, 1, 106, 107, needed - 1, needed, needed + 1, 65_537] {
+            for (k, n, data_length) in [(1, 2, 10), (0, 0, 0), (255, 254, 0), (2, 3, u64::MAX)] {
+                let share = ShareArguments {
+                    sequence_number: 1,
+                    root_hash: slices[0],
+                    iv: slices[1],
+                    k,
+                    n,
+                    data_length,
+                    verification_key: slices[2],
+                    signature: slices[3],
+                    hash_chain: slices[4],
+                    block_tree: slices[5],
+                    share_data: slices[6],
+                    encrypted_private_key: slices[7],
+                };
+                let (number, _) = common::write_share(&share, &mut vec![0xA5; space]);
+                met[number as usize] += 1;
+            }
+        }
+    }
+    for number in [0, 3, 7, 23, 24, 25, 26, 27, 28] {
+        assert!(met[number] > 0, "outcome {number} was never met");
     }
 }

@@ -1,7 +1,9 @@
 //! Numbers at the edges, those of docs/RULES.md, with the bytes that it gives.
 
+mod common;
+
 use beamsatchel_model as model;
-use beamsatchel_node::ffi;
+use beamsatchel_node::ffi::{self, ShareArguments};
 
 const NODE: [u8; 20] = [7; 20];
 const ENABLER: [u8; 32] = [0xEE; 32];
@@ -425,4 +427,218 @@ fn the_share_in_a_container() {
     // A byte after the share inside the data is not the share's end.
     assert_eq!(number(&mut container, &write(&[(2043, b"\0")], None)), 0);
     assert_eq!(ffi::check_container(&container).number, 25);
+}
+
+/// A hash chain with these node numbers, and hashes of bytes 4.
+fn hash_chain(node_numbers: &[u16]) -> Vec<u8> {
+    let entry = |number: &u16| [&number.to_be_bytes()[..], &[4; 32]].concat();
+    node_numbers.iter().flat_map(entry).collect()
+}
+
+/// The share of P11 as numbers and parts, but for its hash chain.
+fn p11(hash_chain: &[u8]) -> ShareArguments<'_> {
+    ShareArguments {
+        sequence_number: 1,
+        root_hash: &[1; 32],
+        iv: &[2; 16],
+        k: 3,
+        n: 10,
+        data_length: 10,
+        verification_key: &[3; 292],
+        signature: &[5; 256],
+        hash_chain,
+        block_tree: &[6; 32],
+        share_data: &[7; 4],
+        encrypted_private_key: &[8; 1216],
+    }
+}
+
+/// The shortest share: of k = N = 1, and without data.
+fn shortest() -> ShareArguments<'static> {
+    ShareArguments {
+        k: 1,
+        n: 1,
+        data_length: 0,
+        verification_key: b"K",
+        signature: b"S",
+        block_tree: &[],
+        share_data: &[],
+        encrypted_private_key: b"P",
+        ..p11(&[])
+    }
+}
+
+/// Writes a share into so many bytes 9; gives number and length. On a refusal, which has no length, all of them stay.
+fn into(space: usize, share: ShareArguments) -> (u32, u64) {
+    let mut after = vec![9; space];
+    let (number, length) = common::write_share(&share, &mut after);
+    assert!(after[length as usize..].iter().all(|byte| *byte == 9));
+    (number, length)
+}
+
+#[test]
+fn p21_lengths_and_space_come_before_the_rest() {
+    let chain = hash_chain(&[2, 4, 8, 16]);
+    let good = p11(&chain);
+    assert_eq!(into(2043, good), (0, 2043));
+    assert_eq!(into(2042, good), (7, 0));
+    for root_hash in [&[1; 31][..], &[1; 33]] {
+        assert_eq!(into(0, ShareArguments { root_hash, ..good }), (3, 0));
+    }
+    for iv in [&[2; 15][..], &[2; 17]] {
+        assert_eq!(into(0, ShareArguments { iv, ..good }), (3, 0));
+    }
+    assert_eq!(into(2042, ShareArguments { k: 0, ..good }), (7, 0));
+    let share_data = &[7; 5];
+    assert_eq!(into(2043, ShareArguments { share_data, ..good }), (7, 0));
+}
+
+#[test]
+fn p22_k_is_from_1_to_n() {
+    let chain = hash_chain(&[2, 4, 8, 16]);
+    let good = p11(&chain);
+    assert_eq!(into(2043, ShareArguments { k: 0, ..good }), (23, 0));
+    assert_eq!(into(2043, ShareArguments { k: 11, ..good }), (23, 0));
+    let all_needed = ShareArguments {
+        k: 10,
+        share_data: &[7; 1],
+        ..good
+    };
+    assert_eq!(into(2043, all_needed), (0, 2040));
+}
+
+#[test]
+fn p23_a_segment_size_of_2_to_64_comes_before_an_empty_key() {
+    let chain = hash_chain(&[2, 4, 8, 16]);
+    let all_ones = ShareArguments {
+        data_length: 18_446_744_073_709_551_615,
+        ..p11(&chain)
+    };
+    let too_long = ShareArguments { k: 2, ..all_ones };
+    assert_eq!(into(2043, too_long), (24, 0));
+    let no_key = ShareArguments {
+        verification_key: &[],
+        ..too_long
+    };
+    assert_eq!(into(2043, no_key), (24, 0));
+    // 2^64-1 is a multiple of 3: the segment size fits, and the share data is too short.
+    assert_eq!(into(2043, all_ones), (28, 0));
+}
+
+#[test]
+fn p24_an_empty_key_comes_before_a_bad_node_number() {
+    let (chain, bad_chain) = (hash_chain(&[2, 4, 8, 16]), hash_chain(&[2, 4, 8, 31]));
+    let good = p11(&chain);
+    let no_key = ShareArguments {
+        verification_key: &[],
+        ..good
+    };
+    let no_signature = ShareArguments {
+        signature: &[],
+        ..good
+    };
+    let no_private_key = ShareArguments {
+        encrypted_private_key: &[],
+        ..good
+    };
+    let no_key_and_bad_chain = ShareArguments {
+        hash_chain: &bad_chain,
+        ..no_key
+    };
+    for share in [no_key, no_signature, no_private_key, no_key_and_bad_chain] {
+        assert_eq!(into(2043, share), (25, 0));
+    }
+}
+
+#[test]
+fn p25_node_numbers_differ_and_are_below_31() {
+    let with = |node_numbers: &[u16]| into(2043, p11(&hash_chain(node_numbers)));
+    assert_eq!(with(&[2, 4, 8, 31]), (26, 0));
+    assert_eq!(with(&[2, 4, 8, 30]), (0, 2043));
+    assert_eq!(with(&[2, 4, 8, 2]), (26, 0));
+    assert_eq!(with(&[16, 8, 4, 2]), (0, 2043));
+    assert_eq!(with(&[2, 4, 8]), (26, 0));
+    // For N = 1 the chain is empty: an entry is too many, also with node number 0, which is not too high.
+    let one_entry = ShareArguments {
+        hash_chain: &hash_chain(&[0]),
+        ..shortest()
+    };
+    assert_eq!(into(144, one_entry), (26, 0));
+}
+
+#[test]
+fn p26_tree_share_data_and_sequence_number() {
+    let chain = hash_chain(&[2, 4, 8, 16]);
+    let good = p11(&chain);
+    for block_tree in [&[][..], &[6; 31]] {
+        assert_eq!(into(2043, ShareArguments { block_tree, ..good }), (27, 0));
+    }
+    let share_data = &[7; 5];
+    assert_eq!(into(2044, ShareArguments { share_data, ..good }), (28, 0));
+    for (sequence_number, answer) in [
+        (18_446_744_073_709_551_615, (29, 0)),
+        (18_446_744_073_709_551_614, (0, 2043)),
+    ] {
+        let share = ShareArguments {
+            sequence_number,
+            ..good
+        };
+        assert_eq!(into(2043, share), answer);
+    }
+}
+
+#[test]
+fn p27_a_share_without_data() {
+    assert_eq!(into(110, shortest()), (0, 110));
+    let with_tree = ShareArguments {
+        block_tree: &[6; 32],
+        ..shortest()
+    };
+    assert_eq!(into(142, with_tree), (0, 142));
+    let with_share_data = ShareArguments {
+        share_data: &[7; 1],
+        ..shortest()
+    };
+    assert_eq!(into(111, with_share_data), (28, 0));
+}
+
+#[test]
+fn p28_every_byte_of_the_space() {
+    let mut space = [0xFF; 2050];
+    let written = common::write_share(&p11(&hash_chain(&[2, 4, 8, 16])), &mut space);
+    assert_eq!(written, (0, 2043));
+    let expected = [
+        &[0][..],                        // version
+        &[0, 0, 0, 0, 0, 0, 0, 1],       // sequence number
+        &[1; 32],                        // R
+        &[2; 16],                        // IV
+        &[3, 0x0A],                      // k, N
+        &[0, 0, 0, 0, 0, 0, 0, 0x0C],    // segment size
+        &[0, 0, 0, 0, 0, 0, 0, 0x0A],    // data length
+        &[0x00, 0x00, 0x01, 0x8F],       // signature at 399
+        &[0x00, 0x00, 0x02, 0x8F],       // hash chain at 655
+        &[0x00, 0x00, 0x03, 0x17],       // block tree at 791
+        &[0x00, 0x00, 0x03, 0x37],       // share data at 823
+        &[0, 0, 0, 0, 0, 0, 0x03, 0x3B], // private key at 827
+        &[0, 0, 0, 0, 0, 0, 0x07, 0xFB], // end at 2,043
+        &[3; 292],                       // key
+        &[5; 256],                       // signature
+        &[0, 2],
+        &[4; 32],
+        &[0, 4],
+        &[4; 32],
+        &[0, 8],
+        &[4; 32],
+        &[0, 16],
+        &[4; 32],
+        &[6; 32],   // tree
+        &[7; 4],    // share data
+        &[8; 1216], // private key
+        &[0xFF; 7], // behind the share
+    ];
+    assert_eq!(space[..], expected.concat());
+    // It is the share of P11, with other bytes in its fields and parts.
+    let checked = ffi::check_share(&space[..2043]);
+    assert_eq!(checked.number, 0);
+    assert_eq!(checked.bounds, [107, 399, 655, 791, 823, 827, 2043]);
 }

@@ -1,9 +1,12 @@
-//! What several tests build: a slot with leases, and a share whose fields and parts all differ.
+//! What several tests build: a slot with leases, and a share whose fields and parts all differ. And what several
+//! compare with the model.
 
 #![allow(dead_code)] // Each test uses some of it.
 
+use beamsatchel_model as model;
+use beamsatchel_node::ffi::{self, ShareArguments};
 use beamsatchel_node::{
-    CancelToken, Container, Lease, NodeId, RenewalToken, TestAndWrite, WriteEnabler,
+    CancelToken, Container, Lease, NewShare, NodeId, RenewalToken, TestAndWrite, WriteEnabler,
 };
 use std::num::NonZeroU32;
 
@@ -107,4 +110,87 @@ pub fn bad_share(number: u32) -> Vec<u8> {
         _ => unreachable!(),
     }
     share
+}
+
+/// The hash chain of [`share`].
+static HASH_CHAIN: [u8; 136] = hash_chain([30, 0, 8, 16]);
+
+const fn hash_chain(node_numbers: [u8; 4]) -> [u8; 136] {
+    let mut chain = [0xB3; 136];
+    let mut entry = 0;
+    while entry < 4 {
+        chain[34 * entry] = 0;
+        chain[34 * entry + 1] = node_numbers[entry];
+        entry += 1;
+    }
+    chain
+}
+
+/// What [`share`] is written from.
+pub fn new_share() -> NewShare<'static> {
+    NewShare {
+        sequence_number: 0x0102_0304_0506_0708,
+        root_hash: rising(0x09),
+        iv: rising(0x60),
+        k: 3,
+        n: 10,
+        data_length: 0x0302,
+        verification_key: &[0xB1; 5],
+        signature: &[0xB2; 7],
+        hash_chain: &HASH_CHAIN,
+        block_tree: &[0xB4; 32],
+        share_data: &[0xB5; 257],
+        encrypted_private_key: &[0xB6; 11],
+    }
+}
+
+/// [`new_share`], spoiled so that it is refused with a number from 23 to 29.
+pub fn bad_new_share(number: u32) -> NewShare<'static> {
+    let mut share = new_share();
+    match number {
+        23 => share.k = 11,
+        24 => (share.k, share.data_length) = (2, u64::MAX),
+        25 => share.signature = &[],
+        26 => share.n = 17,
+        27 => share.block_tree = &[],
+        28 => share.share_data = &[0xB5; 256],
+        29 => share.sequence_number = u64::MAX,
+        _ => unreachable!(),
+    }
+    share
+}
+
+/// The model's form of what a share is written from.
+pub fn modelled<'a>(share: &ShareArguments<'a>) -> model::NewShare<'a> {
+    model::NewShare {
+        sequence_number: share.sequence_number,
+        root_hash: share.root_hash,
+        iv: share.iv,
+        k: share.k,
+        n: share.n,
+        data_length: share.data_length,
+        verification_key: share.verification_key,
+        signature: share.signature,
+        hash_chain: share.hash_chain,
+        block_tree: share.block_tree,
+        share_data: share.share_data,
+        encrypted_private_key: share.encrypted_private_key,
+    }
+}
+
+/// Writes a share by the library and by the model, which must agree. Gives number and length.
+pub fn write_share(share: &ShareArguments, space: &mut [u8]) -> (u32, u64) {
+    let mut by_model = space.to_vec();
+    let written = ffi::write_share(share, space);
+    let modelled = model::write_share(&modelled(share), &mut by_model);
+    assert_eq!(
+        (written.number, written.length),
+        (modelled.number, modelled.length)
+    );
+    assert!(
+        space == by_model,
+        "outcome {}: another space",
+        written.number
+    );
+    (written.number, written.length)
 }
