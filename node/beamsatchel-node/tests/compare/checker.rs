@@ -1,12 +1,14 @@
 //! Runs a case through model, library and the fast writing, and compares all that they give.
 
 use crate::case::Case;
+use crate::common::modelled;
 use crate::looks::Look;
+use crate::shapes::Shape;
 use crate::tally::{Call, Tally};
 use crate::touches::Touch;
-use beamsatchel_model::{self as model, Request};
-use beamsatchel_node::ffi::{self, RawAnswer, RawShare};
-use beamsatchel_node::{Clause, Fault, View};
+use beamsatchel_model::{self as model, Request, WrittenShare};
+use beamsatchel_node::ffi::{self, RawAnswer, RawShare, RawWrittenShare, ShareArguments};
+use beamsatchel_node::{Clause, Fault, NewShare, Share, View};
 
 /// Where a container's data begins.
 const DATA: u64 = 468;
@@ -81,6 +83,9 @@ impl Checker {
         );
         self.tally
             .outcome(Call::BareShare, checked.number, || hex(share));
+        if checked.number == 0 {
+            self.write_again(share);
+        }
         checked.number
     }
 
@@ -98,6 +103,102 @@ impl Checker {
         self.tally.outcome(call, checked.number, || hex(container));
         checked.number
     }
+
+    /// Writes a share into the space, which is the one after it then.
+    pub fn write_share(&mut self, arguments: &ShareArguments, space: &mut [u8]) -> WrittenShare {
+        let share = &modelled(arguments);
+        let before = space.to_vec();
+        let (mut by_library, mut by_fast) = (before.clone(), before.clone());
+        let written = model::write_share(share, space);
+        let library = of_written(ffi::write_share(arguments, &mut by_library));
+        let fast = model::fast::write_share(share, &mut by_fast);
+        assert!(
+            (library, fast) == (written, written) && by_library == space && by_fast == space,
+            "write_share differs\nmodel   {written:?}\nlibrary {library:?}\nfast    {fast:?}\n{}\n\
+             model's   {}\nlibrary's {}\nfast's    {}",
+            show_share(share, &before),
+            hex(space),
+            hex(&by_library),
+            hex(&by_fast)
+        );
+        let number = written.number;
+        assert_eq!(
+            before[written.length as usize..],
+            space[written.length as usize..]
+        );
+        assert_eq!(number == 0, written.length > 0);
+        compare_new_share(share, &before, written, space);
+        self.tally
+            .outcome(Call::WriteShare, number, || show_share(share, &before));
+        self.tally
+            .shapes(Shape::of_case(share, before.len(), number));
+        if number == 0 {
+            demand_accepted(share, &space[..written.length as usize]);
+            self.tally.shapes(vec![Shape::AcceptedAsWritten]);
+            self.tally.total(share.n);
+        }
+        written
+    }
+
+    /// What the check accepts, written again from its own parts, is the same share.
+    fn write_again(&mut self, share: &[u8]) {
+        let again = NewShare::from(Share::check(share).expect("accepted"));
+        // No byte is the share's before it is written.
+        let behind = [0xA5; 40];
+        let mut space: Vec<u8> = share.iter().map(|byte| !byte).chain(behind).collect();
+        let written = self.write_share(&again.arguments(), &mut space);
+        assert_eq!((written.number, written.length), (0, share.len() as u64));
+        assert!(
+            space[..share.len()] == *share && space[share.len()..] == behind,
+            "written again it differs\nshare {}\nspace {}",
+            hex(share),
+            hex(&space)
+        );
+        self.tally.shapes(vec![Shape::WrittenAgain]);
+    }
+}
+
+/// The crate's own types give what the library gives; where R and IV are of their lengths, they take all.
+fn compare_new_share(share: &model::NewShare, before: &[u8], written: WrittenShare, after: &[u8]) {
+    let (Ok(root_hash), Ok(iv)) = (share.root_hash.try_into(), share.iv.try_into()) else {
+        assert_eq!(written.number, 3);
+        return;
+    };
+    let new_share = NewShare {
+        sequence_number: share.sequence_number,
+        root_hash,
+        iv,
+        k: share.k,
+        n: share.n,
+        data_length: share.data_length,
+        verification_key: share.verification_key,
+        signature: share.signature,
+        hash_chain: share.hash_chain,
+        block_tree: share.block_tree,
+        share_data: share.share_data,
+        encrypted_private_key: share.encrypted_private_key,
+    };
+    let needed = new_share.written_len();
+    assert_eq!(needed as u128, share.length());
+    assert_eq!(written.number == 7, before.len() < needed);
+    let mut space = before.to_vec();
+    match new_share.write(&mut space) {
+        Ok(view) => {
+            assert_eq!((written.number, view.parts()), (0, share.parts()));
+            assert_eq!(Share::check(view.as_bytes()), Ok(view));
+            assert_eq!(view.as_bytes().len() as u64, written.length);
+        }
+        Err(error) => assert_eq!(error.number(), written.number),
+    }
+    assert_eq!(space, after);
+}
+
+/// What was written is accepted, with the same numbers and parts.
+fn demand_accepted(share: &model::NewShare, written: &[u8]) {
+    let checked = Share::check(written).expect("what is written is accepted");
+    let again = NewShare::from(checked);
+    assert_eq!(modelled(&again.arguments()), *share);
+    assert_eq!(checked.parts(), share.parts());
 }
 
 /// Lent for reading only, a container answers reads, and takes every other request for an empty one.
@@ -170,6 +271,13 @@ fn of(raw: RawAnswer) -> model::Answer {
     }
 }
 
+fn of_written(raw: RawWrittenShare) -> WrittenShare {
+    WrittenShare {
+        number: raw.number,
+        length: raw.length,
+    }
+}
+
 /// The library's share, with bounds from the share's first byte.
 fn of_share(raw: RawShare, start: u64) -> model::Share {
     let from_start = |bound: u64| {
@@ -212,6 +320,21 @@ pub fn show(case: &Case) -> String {
         hex(&case.container),
         hex(&case.request),
         hex(&case.reply)
+    )
+}
+
+fn show_share(share: &model::NewShare, space: &[u8]) -> String {
+    let [key, signature, chain, tree, data, private_key] = share.parts().map(hex);
+    format!(
+        "sequence number {}, k {}, N {}, data length {}\nR {}\nIV {}\nkey {key}\nsignature {signature}\n\
+         chain {chain}\ntree {tree}\ndata {data}\nprivate key {private_key}\nspace {}",
+        share.sequence_number,
+        share.k,
+        share.n,
+        share.data_length,
+        hex(share.root_hash),
+        hex(share.iv),
+        hex(space)
     )
 }
 

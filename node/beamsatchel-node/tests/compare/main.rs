@@ -1,21 +1,27 @@
 //! The library against the model of the rules (docs/RULES.md): answer record, whole container,
-//! whole reply space.
+//! whole reply space, whole space of a share.
 //!
 //! `BEAMSATCHEL_SEED` sets another seed, `BEAMSATCHEL_CASES` a longer run. The run prints how
-//! often each outcome and each pair of outcomes was met, where tests and reads looked, and what
-//! test-and-writes touched; it fails where a possible one was not met, and at once where an
-//! impossible outcome is or a byte changed that a test-and-write leaves alone.
+//! often each outcome and each pair of outcomes was met, where tests and reads looked, what
+//! test-and-writes touched, and of which shapes shares to be written were; it fails where a
+//! possible one was not met, and at once where an impossible outcome is or a byte changed that a
+//! test-and-write leaves alone.
 
 mod case;
 mod checker;
+#[path = "../common/mod.rs"]
+mod common;
 mod containers;
 mod creates;
 mod edges;
 mod histories;
 mod looks;
+mod new_share_pairs;
+mod new_shares;
 mod pairs;
 mod requests;
 mod rng;
+mod shapes;
 mod share_pairs;
 mod shares;
 mod singles;
@@ -56,11 +62,17 @@ fn main() {
     section("pairs in shares", &|rng, checker| {
         share_pairs::run(cases / 50_000, rng, checker)
     });
+    section("pairs in new shares", &|rng, checker| {
+        new_share_pairs::run(cases / 50_000, rng, checker)
+    });
     section("creates", &|rng, checker| {
         creates::run(cases / 30, rng, checker)
     });
     section("shares", &|rng, checker| {
         shares::run(cases / 6, rng, checker)
+    });
+    section("new shares", &|rng, checker| {
+        new_shares::run(cases / 12, rng, checker)
     });
     section("histories", &|rng, checker| {
         histories::run(cases / 10, rng, checker)

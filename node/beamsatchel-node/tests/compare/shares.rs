@@ -62,14 +62,20 @@ impl Draft {
         }
     }
 
-    /// The share's bytes, with offsets that follow from the parts.
-    pub fn to_bytes(&self, rng: &mut Rng) -> Vec<u8> {
+    /// The chain's bytes: node numbers and hashes.
+    pub fn chain_bytes(&self, rng: &mut Rng) -> Vec<u8> {
         let mut chain = Vec::new();
         for number in &self.chain {
             chain.extend(number.to_be_bytes());
             chain.extend(rng.array::<32>());
         }
         chain.extend(rng.bytes(self.chain_excess));
+        chain
+    }
+
+    /// The share's bytes, with offsets that follow from the parts.
+    pub fn to_bytes(&self, rng: &mut Rng) -> Vec<u8> {
+        let chain = self.chain_bytes(rng);
         let parts = [
             &self.key,
             &self.signature,

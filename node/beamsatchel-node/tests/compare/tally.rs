@@ -1,8 +1,10 @@
-//! How often each outcome, each pair of outcomes, each look at the data and each touch of it was met.
+//! How often each outcome, each pair of outcomes, each look at the data, each touch of it and each shape of a new share
+//! was met.
 
 use crate::looks::Look;
+use crate::shapes::Shape;
 use crate::touches::Touch;
-use std::collections::BTreeMap;
+use std::collections::{BTreeMap, BTreeSet};
 
 /// What was called; for apply, by the request's first byte.
 #[derive(Clone, Copy, Debug, PartialEq, Eq, PartialOrd, Ord)]
@@ -16,10 +18,11 @@ pub enum Call {
     UnknownKind,
     BareShare,
     ShareInContainer,
+    WriteShare,
 }
 
 impl Call {
-    pub const ALL: [Call; 9] = [
+    pub const ALL: [Call; 10] = [
         Call::Create,
         Call::TestAndWrite,
         Call::Add,
@@ -29,6 +32,7 @@ impl Call {
         Call::UnknownKind,
         Call::BareShare,
         Call::ShareInContainer,
+        Call::WriteShare,
     ];
 
     /// Those that look at the data and reply with pieces of it.
@@ -58,6 +62,7 @@ impl Call {
             Call::UnknownKind => &[1, 2, 3],
             Call::BareShare => &[0, 21, 22, 23, 24, 25, 26, 27, 28, 29],
             Call::ShareInContainer => &[0, 1, 2, 21, 22, 23, 24, 25, 26, 27, 28, 29],
+            Call::WriteShare => &[0, 3, 7, 23, 24, 25, 26, 27, 28, 29],
         }
     }
 
@@ -88,6 +93,9 @@ pub struct Tally {
     pairs: BTreeMap<(Call, u32, u32), u64>,
     looks: BTreeMap<(Call, Look), u64>,
     touches: BTreeMap<Touch, u64>,
+    shapes: BTreeMap<Shape, u64>,
+    /// The N of shares that were written.
+    totals: BTreeSet<u8>,
 }
 
 impl Tally {
@@ -116,6 +124,17 @@ impl Tally {
         for touch in touches {
             *self.touches.entry(touch).or_default() += 1;
         }
+    }
+
+    pub fn shapes(&mut self, shapes: Vec<Shape>) {
+        for shape in shapes {
+            *self.shapes.entry(shape).or_default() += 1;
+        }
+    }
+
+    /// A share was written, one of so many.
+    pub fn total(&mut self, n: u8) {
+        self.totals.insert(n);
     }
 
     pub fn print(&self) {
@@ -157,10 +176,20 @@ impl Tally {
             .iter()
             .map(|(touch, count)| format!("{touch:?}: {count}"))
             .collect();
+        println!("  {}", met.join(", "));
+        println!(
+            "\nshapes of new shares, written with {} different N:",
+            self.totals.len()
+        );
+        let met: Vec<String> = self
+            .shapes
+            .iter()
+            .map(|(shape, count)| format!("{shape:?}: {count}"))
+            .collect();
         println!("  {}\n", met.join(", "));
     }
 
-    /// Every possible outcome, pair, look and touch was met.
+    /// Every possible outcome, pair, look, touch and shape was met, and every N.
     pub fn demand_all(&self) {
         for call in Call::ALL {
             for number in call.outcomes() {
@@ -183,6 +212,15 @@ impl Tally {
         }
         for touch in Touch::ALL {
             assert!(self.touches.contains_key(&touch), "{touch:?} was never met");
+        }
+        for shape in Shape::ALL {
+            assert!(self.shapes.contains_key(&shape), "{shape:?} was never met");
+        }
+        for n in 1..=255 {
+            assert!(
+                self.totals.contains(&n),
+                "no share with N = {n} was written"
+            );
         }
     }
 }
