@@ -7,8 +7,8 @@
 #![allow(unsafe_code)]
 
 use crate::contest::{contest, Side};
-use crate::work::{self, Player, Slot};
-use beamsatchel_node::ffi::{RawAnswer, RawShare};
+use crate::work::{self, Player, Slot, Source, NEW_SHARES};
+use beamsatchel_node::ffi::{RawAnswer, RawShare, RawWrittenShare, ShareArguments};
 use std::cell::RefCell;
 use std::collections::HashSet;
 use std::ffi::{c_char, c_int, c_void, CStr, CString};
@@ -28,6 +28,30 @@ const NOW: c_int = 2;
 
 type Apply = unsafe extern "C" fn(*mut u8, usize, *const u8, usize, *mut u8, usize) -> RawAnswer;
 type Check = unsafe extern "C" fn(*const u8, usize) -> RawShare;
+type WriteShare = unsafe extern "C" fn(
+    u64,
+    *const u8,
+    usize,
+    *const u8,
+    usize,
+    u8,
+    u8,
+    u64,
+    *const u8,
+    usize,
+    *const u8,
+    usize,
+    *const u8,
+    usize,
+    *const u8,
+    usize,
+    *const u8,
+    usize,
+    *const u8,
+    usize,
+    *mut u8,
+    usize,
+) -> RawWrittenShare;
 
 unsafe extern "C" {
     fn dlopen(path: *const c_char, flags: c_int) -> *mut c_void;
@@ -39,6 +63,8 @@ struct Library {
     apply: Apply,
     check_share: Check,
     check_container: Check,
+    /// An archive of a version before 0.3.0 has none.
+    write_share: Option<WriteShare>,
 }
 
 impl Library {
@@ -62,12 +88,14 @@ impl Library {
         let apply = find(c"beamsatchel_apply")?;
         let check_share = find(c"beamsatchel_check_share")?;
         let check_container = find(c"beamsatchel_check_container")?;
+        let write_share = find(c"beamsatchel_write_share").ok();
         // SAFETY: the types are those of include/beamsatchel.h.
         unsafe {
             Ok(Library {
                 apply: transmute::<*mut c_void, Apply>(apply),
                 check_share: transmute::<*mut c_void, Check>(check_share),
                 check_container: transmute::<*mut c_void, Check>(check_container),
+                write_share: write_share.map(|found| transmute::<*mut c_void, WriteShare>(found)),
             })
         }
     }
@@ -94,6 +122,39 @@ fn check(check: Check, bytes: &[u8]) {
     // SAFETY: pointer and length are those of one live slice, which is only read.
     let answer = unsafe { check(bytes.as_ptr(), bytes.len()) };
     assert_eq!(answer.number, 0);
+}
+
+/// Writes a good share.
+fn write(write_share: WriteShare, share: &ShareArguments, space: &mut [u8]) {
+    let share = black_box(share);
+    // SAFETY: pointer and length of each are those of one live slice, and the space overlaps no other.
+    let written = unsafe {
+        write_share(
+            share.sequence_number,
+            share.root_hash.as_ptr(),
+            share.root_hash.len(),
+            share.iv.as_ptr(),
+            share.iv.len(),
+            share.k,
+            share.n,
+            share.data_length,
+            share.verification_key.as_ptr(),
+            share.verification_key.len(),
+            share.signature.as_ptr(),
+            share.signature.len(),
+            share.hash_chain.as_ptr(),
+            share.hash_chain.len(),
+            share.block_tree.as_ptr(),
+            share.block_tree.len(),
+            share.share_data.as_ptr(),
+            share.share_data.len(),
+            share.encrypted_private_key.as_ptr(),
+            share.encrypted_private_key.len(),
+            space.as_mut_ptr(),
+            space.len(),
+        )
+    };
+    assert_eq!(written.number, 0);
 }
 
 /// Makes a shared object of the archive, its code `shift` bytes further on.
@@ -188,6 +249,21 @@ pub fn against_each_other(archives: &[PathBuf]) -> Result<(), String> {
             check(library.check_container, &container);
         },
     );
+    if libraries
+        .iter()
+        .any(|library| library.write_share.is_none())
+    {
+        println!("no shares are written, since not every archive has the writer");
+        return Ok(());
+    }
+    for (name, length) in NEW_SHARES {
+        let source = Source::new(length);
+        let (share, space) = (source.arguments(), RefCell::new(vec![0; length]));
+        row(name, &libraries, |library| {
+            let write_share = library.write_share.expect("each has it");
+            write(write_share, &share, &mut space.borrow_mut());
+        });
+    }
     Ok(())
 }
 

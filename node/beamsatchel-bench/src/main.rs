@@ -11,7 +11,7 @@ use beamsatchel_node::ffi;
 use contest::{contest, Side};
 use std::hint::black_box;
 use std::path::PathBuf;
-use work::{Player, Slot};
+use work::{Player, Slot, Source, NEW_SHARES};
 
 fn main() {
     let named: Vec<PathBuf> = std::env::args_os().skip(1).map(PathBuf::from).collect();
@@ -59,6 +59,23 @@ fn against_rust() {
         || assert_eq!(ffi::check_container(black_box(&container)).number, 0),
         || assert_eq!(fast::check_container(black_box(&container)).number, 0),
     );
+    for (name, length) in NEW_SHARES {
+        let source = Source::new(length);
+        let (arguments, new_share) = (source.arguments(), source.new_share());
+        let (mut by_library, mut by_rust) = (vec![1; length], vec![2; length]);
+        row(
+            name,
+            || {
+                let written = ffi::write_share(black_box(&arguments), &mut by_library);
+                assert_eq!(written.number, 0);
+            },
+            || {
+                let written = fast::write_share(black_box(&new_share), &mut by_rust);
+                assert_eq!(written.number, 0);
+            },
+        );
+        assert!(by_library == by_rust, "the shares differ");
+    }
 }
 
 /// One row of the table.

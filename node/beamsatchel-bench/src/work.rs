@@ -1,5 +1,7 @@
-//! The containers and requests of the benchmark.
+//! The containers, requests and shares of the benchmark.
 
+use beamsatchel_model::NewShare;
+use beamsatchel_node::ffi::ShareArguments;
 use beamsatchel_node::{
     AddLease, CancelLease, CancelToken, Container, Lease, NodeId, Opcode, ReadData, RenewLease,
     RenewalToken, TestAndWrite, WriteEnabler,
@@ -210,6 +212,64 @@ pub fn share() -> Vec<u8> {
     }
     share
 }
+
+/// What a share is written from: that of 2,043 bytes, or one with more share data. The bytes are that share's, with the
+/// share data behind it.
+pub struct Source(Vec<u8>);
+
+impl Source {
+    /// The source of a share of so many bytes, at least 2,043.
+    pub fn new(length: usize) -> Source {
+        let mut bytes = share();
+        // The share has 4 bytes of share data itself.
+        bytes.resize(4 + length, 0);
+        Source(bytes)
+    }
+
+    /// For the library.
+    pub fn arguments(&self) -> ShareArguments<'_> {
+        let (share, share_data) = self.0.split_at(2043);
+        ShareArguments {
+            sequence_number: 1,
+            root_hash: &share[9..41],
+            iv: &share[41..57],
+            k: 3,
+            n: 10,
+            data_length: 3 * share_data.len() as u64 - 2,
+            verification_key: &share[107..399],
+            signature: &share[399..655],
+            hash_chain: &share[655..791],
+            block_tree: &share[791..823],
+            share_data,
+            encrypted_private_key: &share[827..],
+        }
+    }
+
+    /// For plain Rust.
+    pub fn new_share(&self) -> NewShare<'_> {
+        let share = self.arguments();
+        NewShare {
+            sequence_number: share.sequence_number,
+            root_hash: share.root_hash,
+            iv: share.iv,
+            k: share.k,
+            n: share.n,
+            data_length: share.data_length,
+            verification_key: share.verification_key,
+            signature: share.signature,
+            hash_chain: share.hash_chain,
+            block_tree: share.block_tree,
+            share_data: share.share_data,
+            encrypted_private_key: share.encrypted_private_key,
+        }
+    }
+}
+
+/// The rows of shares that are written: a name, and the share's length.
+pub const NEW_SHARES: [(&str, usize); 2] = [
+    ("write a share of 2,043 bytes", 2043),
+    ("write a share of 60 KiB", 60 * 1024),
+];
 
 /// A side: container, request and reply space in, the outcome's number out.
 pub type Apply<'a> = dyn Fn(&mut [u8], &[u8], &mut [u8]) -> u32 + 'a;
