@@ -13,7 +13,7 @@ use Rattle.container.specs.Data.{beyond, lentOf, dataLent}
 use Rattle.format.specs.Container.{wellFormed, lengthAllowed}
 use Rattle.octets.specs.Rows.{firstRow, row}
 use Rattle.format.specs.Judging.{Judges}
-use Rattle.format.specs.Layout.{dataAt, dataOf, extrasOf, sizeOf}
+use Rattle.format.specs.Layout.{dataAt, dataOf, extrasOf, sizeOf, countAt}
 use Rattle.format.proofs.RoundTrip.{data-field}
 use Rattle.format.proofs.WellFormed.{data-length, formed-facts, used-is}
 use Rattle.rules.proofs.OutcomeLaws.{formed-length}
@@ -34,11 +34,11 @@ lends-formed : (c : List ℕ) → wellFormed c ≡ true → Lends c
 unfolding lentOf dataLent
 lends-formed c e =
     let k : dataAt + sizeOf c - dataAt ≡ sizeOf c = omega arith in
-    let f = formed-facts c e .fields .fits in
+    let f = formed-facts c e .fields in
     let data-size : length (dataOf c) ≡ sizeOf c = data-length c e in
     record {
       rises = rw e (omega arith);
-      fits = rw e (omega (arith, used-is (sizeOf c) (extrasOf c)));
+      fits = rw e (omega (arith, f, used-is (countAt c) (extrasOf c)));
       ends = rw e (omega (arith, data-size));
       bytes = rw (e, k) (data-field c);
     }

@@ -10,10 +10,10 @@ use borrow.Author.Tests.{eq-eqb}
 use Rattle.octets.specs.Moves.{put}
 use Rattle.octets.specs.Numbers.{digits}
 use Rattle.octets.specs.Strings.{same, join}
-use Rattle.format.specs.Layout.{magic, countAt, usedLength, least, nodeSize, nodeAt, secretSize, offsetAt, sizeWidth}
+use Rattle.format.specs.Layout.{magic, usedLength, least, nodeSize, nodeAt, secretSize, offsetAt, sizeWidth}
 use Rattle.format.specs.Layout.{countSize, dataAt, enablerAt, fixedPlaces, leasesAt, recordSize, sizeAt}
 use Rattle.format.specs.Container.{lengthAllowed}
-use Rattle.format.specs.Parts.{used, extras, encode, noLease, fresh}
+use Rattle.format.specs.Parts.{countIn, used, extras, encode, noLease, fresh}
 use Rattle.rules.specs.Outcomes.{answerOf, noNode, createOutcome, createAnswer, createdContainer}
 use Rattle.octets.specs.Rows.{firstRow}
 use Rattle.octets.proofs.MoveLaws.{put-append-zeros, zeros-split}
@@ -91,6 +91,6 @@ module _ (n : ℕ) (m node enabler o : List ℕ) (room : least ≤ n) (lm : leng
 pub fresh-bytes : (n : ℕ) (node enabler : List ℕ) → least ≤ n → length node ≡ nodeSize → length enabler ≡ secretSize
     → put offsetAt (digits sizeWidth dataAt) (put enablerAt enabler (put nodeAt node (put 0 magic (replicate n 0))))
     ≡ encode (fresh n node enabler)
-unfolding fresh used extras usedLength countAt digits join noLease
+unfolding fresh used countIn extras usedLength digits join noLease
 fresh-bytes n node enabler h k l =
     put-all n magic node enabler (digits sizeWidth dataAt) h refl k l refl ∙ sym (encode-flat (fresh n node enabler))

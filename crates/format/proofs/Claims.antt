@@ -11,7 +11,7 @@ use Rattle.octets.proofs.StringLaws.{octets-take, octets-drop, octets-append, o
 use Rattle.format.specs.Layout.{magic, nodeAt, enablerAt, leasesAt, dataAt, countAt, nodeOf, enablerOf, sizeOf}
 use Rattle.format.specs.Layout.{dataOf, extrasOf, records, leasesOf, countSize, fixedPlaces, recordSize}
 use Rattle.format.specs.Layout.{nodeSize, secretSize, sizeWidth, extrasAt}
-use Rattle.format.specs.Parts.{Parts, extras, used, partsOf, encode}
+use Rattle.format.specs.Parts.{Parts, extras, countIn, used, partsOf, encode}
 use Rattle.format.specs.Claims.{OctetParts, RoundTrip}
 use Rattle.octets.proofs.ListLaws.{each-append, each-take, each-drop}
 use Rattle.format.proofs.RoundTrip.{encode-parts, parts-valid, parts-encode, encode-formed, parts-determine}
@@ -45,6 +45,7 @@ octets-records (suc n) p c h = (
 octets-encode : (p : Parts) → OctetParts p → Octets (encode p)
 octets-encode p o =
     let s : ℕ = length (p .bytes) in
+    let a : ℕ = countIn p in
     let e : ℕ = extras (p .leases) in
     let four : List ℕ = join (take fixedPlaces (p .leases)) in
     let more : List ℕ = join (drop fixedPlaces (p .leases)) in
@@ -52,20 +53,20 @@ octets-encode p o =
     (o .leases)) in
     let m : Octets more = octets-join (drop fixedPlaces (p .leases)) (each-drop Octets fixedPlaces (p .leases)
     (o .leases)) in
-    let rest : List (List ℕ) = four ∷ p .bytes ∷ digits countSize e ∷ more ∷ [] in
-    let h : Each Octets rest = (f, (o .bytes, (octets-digits countSize e, (m, tt)))) in
+    let rest : List (List ℕ) = four ∷ p .bytes ∷ replicate (p .slack) 0 ∷ digits countSize e ∷ more ∷ [] in
+    let h : Each Octets rest = (f, (o .bytes, (octets-zeros (p .slack), (octets-digits countSize e, (m, tt))))) in
     let z : ℕ = p .room - used p in
     rw encode-flat
-    (octets-onto (magic ∷ p .node ∷ p .enabler ∷ digits sizeWidth s ∷ digits sizeWidth (countAt s) ∷ rest)
+    (octets-onto (magic ∷ p .node ∷ p .enabler ∷ digits sizeWidth s ∷ digits sizeWidth a ∷ rest)
     (replicate z 0)
-    (octets-magic, (o .node, (o .enabler, (octets-digits sizeWidth s, (octets-digits sizeWidth (countAt s), h)))))
+    (octets-magic, (o .node, (o .enabler, (octets-digits sizeWidth s, (octets-digits sizeWidth a, h)))))
     (octets-zeros z))
 
 -- ---- the parts of a container made of bytes
 octets-parts : (c : List ℕ) → Octets c → OctetParts (partsOf c)
 unfolding partsOf nodeOf enablerOf dataOf leasesOf
 octets-parts c h =
-    let k : ℕ = extrasAt (sizeOf c) in
+    let k : ℕ = extrasAt (countAt c) in
     record {
       node = octets-take nodeSize (drop nodeAt c) (octets-drop nodeAt c h);
       enabler = octets-take secretSize (drop enablerAt c) (octets-drop enablerAt c h);

@@ -8,14 +8,14 @@ use Prim.Native.Nat.{ℕ, zero, suc, _+_, _*_, _-_, _≤_, _<_}
 use native.Mathlib.Omega.{arith}
 use native.Mathlib.Nat.{not-suc-le-zero}
 use lib.Dec.{eqb}
-use lib.ListN.{length, take, drop}
-use lib.Seq.{take-take}
+use lib.ListN.{length, take, drop, length-drop}
+use lib.Seq.{take-take, take-all}
 use borrow.Author.Tests.{leb-true, eq-eqb, ne-eqb, le-leb, lt-leb}
 use Rattle.octets.specs.Numbers.{number, numberAt}
 use Rattle.octets.specs.Strings.{allZero}
 use Rattle.format.specs.Layout.{least, limit, leasesAt, countAt, sizeOf, extrasOf, records, leasesOf, ownerOf}
-use Rattle.format.specs.Layout.{dataAt, extraLimit, recordSize, sizeWidth, sizeAt, fixedPlaces, countSize}
-use Rattle.format.specs.Layout.{usedLength, extrasAt}
+use Rattle.format.specs.Layout.{dataAt, extraLimit, recordSize, sizeWidth, sizeAt, offsetAt, fixedPlaces}
+use Rattle.format.specs.Layout.{countSize, usedLength, extrasAt, usedEnd, dataEnd, slackOf}
 use Rattle.format.specs.Container.{lengthAllowed, held, recordOk, lastHeld, fieldsOk, contentsOk, wellFormed}
 use Rattle.format.specs.Judging.{fieldsFound, Framed, Judges, Known, frameOf}
 use Rattle.octets.proofs.ListLaws.{both, and-assoc}
@@ -106,38 +106,47 @@ pub size-read : (c : List ℕ) (s : ℕ) → s ≡ numberAt sizeWidth sizeAt c �
 unfolding sizeOf
 size-read c s e = sym e
 
-pub extras-read : (c : List ℕ) (s o e : ℕ) → sizeOf c ≡ s → o ≡ dataAt + s → e ≡ numberAt countSize o c → extrasOf c ≡ e
-unfolding extrasOf countAt
-extras-read c s o e p q r = rw p (ap (λ (n : ℕ). numberAt countSize n c) (sym q) ∙ sym r)
+pub count-read : (c : List ℕ) (o : ℕ) → o ≡ numberAt sizeWidth offsetAt c → countAt c ≡ o
+unfolding countAt
+count-read c o e = sym e
+
+pub extras-read : (c : List ℕ) (o e : ℕ) → countAt c ≡ o → e ≡ numberAt countSize o c → extrasOf c ≡ e
+unfolding extrasOf
+extras-read c o e p r = rw p (sym r)
 
 -- ---- the contents, in the order in which the code tests them
 leases-ok : (c : List ℕ) → every recordOk (leasesOf c) ≡ (every recordOk (records fixedPlaces leasesAt c)
-    && every recordOk (records (extrasOf c) (extrasAt (sizeOf c)) c))
+    && every recordOk (records (extrasOf c) (extrasAt (countAt c)) c))
 unfolding leasesOf
-leases-ok c = every-append (records fixedPlaces leasesAt c) (records (extrasOf c) (extrasAt (sizeOf c)) c)
+leases-ok c = every-append (records fixedPlaces leasesAt c) (records (extrasOf c) (extrasAt (countAt c)) c)
 
 pub contents-read : (c : List ℕ) (f : Frame) → Framed c f
     → contentsOk c
     ≡ (every recordOk (records fixedPlaces leasesAt c)
-    && (every recordOk (records (f .extras) (extrasAt (f .size)) c)
-    && (lastHeld (records (f .extras) (extrasAt (f .size)) c)
-    && allZero (drop (usedLength (f .size) (f .extras)) c))))
-unfolding contentsOk
+    && (every recordOk (records (f .extras) (extrasAt (f .offset)) c)
+    && (lastHeld (records (f .extras) (extrasAt (f .offset)) c)
+    && (allZero (take (length c - usedLength (f .offset) (f .extras)) (drop (usedLength (f .offset) (f .extras)) c))
+    && allZero (take (f .offset - (dataAt + f .size)) (drop (dataAt + f .size) c))))))
+unfolding contentsOk slackOf
 contents-read c f h =
-    let l : List (List ℕ) = records (extrasOf c) (extrasAt (sizeOf c)) c in
-    rw (h .is, leases-ok c, extra-leases c)
+    let l : List (List ℕ) = records (extrasOf c) (extrasAt (countAt c)) c in
+    let z : take (length c - usedEnd c) (drop (usedEnd c) c) ≡ drop (usedEnd c) c =
+    take-all (length c - usedEnd c) (drop (usedEnd c) c) (rw length-drop (omega arith)) in
+    rw (h .is, z, leases-ok c, extra-leases c)
     (and-assoc (every recordOk (records fixedPlaces leasesAt c)) (every recordOk l)
-    (lastHeld l && allZero (drop (usedLength (sizeOf c) (extrasOf c)) c)))
+    (lastHeld l && (allZero (drop (usedEnd c) c)
+    && allZero (take (countAt c - dataEnd c) (drop (dataEnd c) c)))))
 
 -- A frame in numbers.
 pub record Sized (c : List ℕ) (f : Frame) : Type 0 where
   pub few : f .extras ≤ extraLimit
-  pub fits : least + f .size + recordSize * f .extras ≤ length c
+  pub behind : dataAt + f .size ≤ f .offset
+  pub fits : f .offset + countSize + recordSize * f .extras ≤ length c
 
 fields-sized : (c : List ℕ) (f : Frame) → f ≡ frameOf c → Fields c → Sized c f
 fields-sized c f e h =
-    let u = used-is (sizeOf c) (extrasOf c) in
-    rw e (record { few = omega (arith, h .few); fits = omega (arith, h .fits) })
+    let u = used-is (countAt c) (extrasOf c) in
+    rw e (record { few = h .few; behind = h .behind; fits = omega (arith, h .fits) })
 
 pub framed-sized : (c : List ℕ) (f : Frame) → Framed c f → Sized c f
 framed-sized c f h = fields-sized c f (h .is) (fields-facts c (h .agree))

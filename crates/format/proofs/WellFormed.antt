@@ -2,17 +2,16 @@
 use mathlib.Core.Path.{_≡_, refl, sym, ap, _∙_}
 use mathlib.Core.Bool.{Bool, true, false, _&&_}
 use mathlib.Core.List.{List, [], _∷_, _++_, append-assoc}
-use Prim.Native.Nat.{ℕ, zero, suc, _+_, _*_, _≤_, _<_}
+use Prim.Native.Nat.{ℕ, zero, suc, _+_, _-_, _*_, _≤_, _<_}
 use native.Mathlib.Omega.{arith}
 use native.Mathlib.Nat.{not-suc-le-zero}
 use lib.ListN.{length, take, drop, getD, length-append, length-drop}
 use lib.Seq.{length-take-le, drop-drop, take-add, take-at, drop-at}
-use borrow.Author.Tests.{eqb-true, leb-true, eq-eqb, le-leb}
-use Rattle.octets.specs.Numbers.{numberAt}
+use borrow.Author.Tests.{leb-true, le-leb}
 use Rattle.octets.specs.Strings.{allZero, same, join}
-use Rattle.format.specs.Layout.{magic, least, limit, offsetAt, leasesAt, dataAt, countAt, usedLength, sizeOf}
-use Rattle.format.specs.Layout.{dataOf, extrasOf, leasesOf, recordSize, records, fixedPlaces}
-use Rattle.format.specs.Layout.{nodeAt, sizeWidth, extraLimit, extrasAt}
+use Rattle.format.specs.Layout.{magic, least, limit, leasesAt, dataAt, countAt, usedLength, sizeOf, movedCount}
+use Rattle.format.specs.Layout.{dataOf, extrasOf, leasesOf, recordSize, records, fixedPlaces, dataEnd, usedEnd}
+use Rattle.format.specs.Layout.{nodeAt, extraLimit, extrasAt, countSize, slackOf}
 use Rattle.format.specs.Container.{lengthAllowed, held, recordOk, lastHeld, fieldsOk, contentsOk, wellFormed}
 use Rattle.octets.specs.Lists.{every}
 use Rattle.octets.specs.Facts.{Each}
@@ -21,9 +20,9 @@ use Rattle.octets.proofs.ListLaws.{both, by-refuting, and-assoc}
 -- ---- the fields
 pub record Fields (c : List ℕ) : Type 0 where
   pub magical : same (take nodeAt c) magic ≡ true
-  pub offset : numberAt sizeWidth offsetAt c ≡ countAt (sizeOf c)
+  pub behind : dataEnd c ≤ countAt c
   pub few : extrasOf c ≤ extraLimit
-  pub fits : usedLength (sizeOf c) (extrasOf c) ≤ length c
+  pub fits : usedEnd c ≤ length c
 
 pub fields-facts : (c : List ℕ) → fieldsOk c ≡ true → Fields c
 unfolding fieldsOk
@@ -31,11 +30,11 @@ fields-facts c e =
     let a = both _ _ e in
     let b = both _ _ (a .1) in
     let d = both _ _ (b .1) in
-    record { magical = a .0; offset = eqb-true _ _ (b .0); few = leb-true _ _ (d .0); fits = leb-true _ _ (d .1) }
+    record { magical = a .0; behind = leb-true _ _ (b .0); few = leb-true _ _ (d .0); fits = leb-true _ _ (d .1) }
 
 pub fields-true : (c : List ℕ) → Fields c → fieldsOk c ≡ true
 unfolding fieldsOk
-fields-true c h = rw (h .magical, eq-eqb _ _ (h .offset), le-leb _ _ (h .few), le-leb _ _ (h .fits))
+fields-true c h = rw (h .magical, le-leb _ _ (h .behind), le-leb _ _ (h .few), le-leb _ _ (h .fits))
 
 pub fields-false : (c : List ℕ) → (Fields c → ⊥) → fieldsOk c ≡ false
 fields-false c k = by-refuting (fieldsOk c) (λ e. k (fields-facts c e))
@@ -44,18 +43,20 @@ fields-false c k = by-refuting (fieldsOk c) (λ e. k (fields-facts c e))
 pub record Contents (c : List ℕ) : Type 0 where
   pub records : every recordOk (leasesOf c) ≡ true
   pub last : lastHeld (drop fixedPlaces (leasesOf c)) ≡ true
-  pub zeros : allZero (drop (usedLength (sizeOf c) (extrasOf c)) c) ≡ true
+  pub zeros : allZero (drop (usedEnd c) c) ≡ true
+  pub slack : allZero (take (slackOf c) (drop (dataEnd c) c)) ≡ true
 
 pub contents-facts : (c : List ℕ) → contentsOk c ≡ true → Contents c
 unfolding contentsOk
 contents-facts c e =
     let a = both _ _ e in
     let b = both _ _ (a .1) in
-    record { records = a .0; last = b .0; zeros = b .1 }
+    let z = both _ _ (b .1) in
+    record { records = a .0; last = b .0; zeros = z .0; slack = z .1 }
 
 pub contents-true : (c : List ℕ) → Contents c → contentsOk c ≡ true
 unfolding contentsOk
-contents-true c h = rw (h .records, h .last, h .zeros)
+contents-true c h = rw (h .records, h .last, h .zeros, h .slack)
 
 -- ---- the whole
 pub record Formed (c : List ℕ) : Type 0 where
@@ -88,13 +89,30 @@ formed-true c h = rw (
 )
 
 -- ---- the table in numbers
-pub count-is : (s : ℕ) → countAt s ≡ dataAt + s
-unfolding countAt
-count-is s = refl
+pub used-is : (o e : ℕ) → usedLength o e ≡ o + countSize + recordSize * e
+unfolding usedLength
+used-is o e = refl
 
-pub used-is : (s e : ℕ) → usedLength s e ≡ least + s + recordSize * e
-unfolding usedLength countAt
-used-is s e = omega arith
+pub slack-is : (c : List ℕ) → slackOf c ≡ countAt c - dataEnd c
+unfolding slackOf
+slack-is c = refl
+
+-- A count is moved where the data needs its place, and only there.
+pub moved-up : (o s : ℕ) → o ≤ dataAt + s → movedCount o s ≡ dataAt + s
+unfolding movedCount
+moved-up o s h = omega arith
+
+pub moved-not : (o s : ℕ) → dataAt + s ≤ o → movedCount o s ≡ o
+unfolding movedCount
+moved-not o s h = omega arith
+
+pub moved-most : (o s : ℕ) → (o ≤ movedCount o s) × (dataAt + s ≤ movedCount o s)
+unfolding movedCount
+moved-most o s = (omega arith, omega arith)
+
+pub moved-below : (o s m : ℕ) → o ≤ m → dataAt + s ≤ m → movedCount o s ≤ m
+unfolding movedCount
+moved-below o s m h k = omega arith
 
 -- ---- lease records, read one after the other
 pub length-records : (n p : ℕ) (c : List ℕ) → length (records n p c) ≡ n
@@ -151,8 +169,8 @@ every-append (r ∷ a) b = ap (λ (t : Bool). recordOk r && t) (every-append a b
 pub length-leases : (c : List ℕ) → length (leasesOf c) ≡ fixedPlaces + extrasOf c
 unfolding leasesOf
 length-leases c = length-append (records fixedPlaces leasesAt c)
-    (records (extrasOf c) (extrasAt (sizeOf c)) c)
-    ∙ rw (length-records fixedPlaces leasesAt c, length-records (extrasOf c) (extrasAt (sizeOf c)) c)
+    (records (extrasOf c) (extrasAt (countAt c)) c)
+    ∙ rw (length-records fixedPlaces leasesAt c, length-records (extrasOf c) (extrasAt (countAt c)) c)
 
 -- ---- lease records, joined (records that reach past the end are cut short on both sides)
 pub join-records : (n p : ℕ) (c : List ℕ) → join (records n p c) ≡ take (recordSize * n) (drop p c)
@@ -183,4 +201,4 @@ records-join (r ∷ ls) t h =
 pub data-length : (c : List ℕ) → wellFormed c ≡ true → length (dataOf c) ≡ sizeOf c
 unfolding dataOf
 data-length c e = length-take-le (sizeOf c) (drop dataAt c)
-    (rw length-drop (omega (arith, formed-facts c e .fields .fits, used-is (sizeOf c) (extrasOf c))))
+    (rw length-drop (omega (arith, formed-facts c e .fields, used-is (countAt c) (extrasOf c))))

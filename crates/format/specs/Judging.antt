@@ -5,7 +5,7 @@ use mathlib.Core.Bool.{true, cond}
 use mathlib.Core.List.{List}
 use mathlib.Core.Option.{Option, none, some}
 use Rattle.octets.specs.Rows.{firstRow}
-use Rattle.format.specs.Layout.{sizeOf, extrasOf}
+use Rattle.format.specs.Layout.{sizeOf, countAt, extrasOf, movedCount}
 use Rattle.format.specs.Container.{fieldsOk, wellFormed, containerRows}
 use Rattle.format.specs.declared.layout.Frame.{Frame}
 use Rattle.format.specs.declared.judging.Fields.{Fields}
@@ -15,14 +15,14 @@ use Rattle.format.specs.declared.judging.Judged.the-variants.{BadLength,
 
 -- What the code keeps of a well-formed container.
 abbrev pub frameOf : List ℕ → Frame
-frameOf c = record { size = sizeOf c; extras = extrasOf c }
+frameOf c = record { size = sizeOf c; offset = countAt c; extras = extrasOf c }
 
--- The frame with another size of the data, and with one more extra lease.
+-- The frame with another size of the data, for which the count moves where it must, and with one more extra lease.
 abbrev pub resizedTo : Frame → ℕ → Frame
-resizedTo f n = record { size = n; extras = f .extras }
+resizedTo f n = record { size = n; offset = movedCount (f .offset) n; extras = f .extras }
 
 abbrev pub withExtra : Frame → Frame
-withExtra f = record { size = f .size; extras = f .extras + 1 }
+withExtra f = record { size = f .size; offset = f .offset; extras = f .extras + 1 }
 
 -- What reading the fields answers: the frame where they agree.
 abbrev pub fieldsFound : List ℕ → Fields

@@ -1,7 +1,7 @@
--- The layout of a container (docs/RULES.md, C1 to C19): a table of fields in one buffer, numbers big-endian.
+-- The layout of a container (docs/RULES.md, C1 to C19, C22): a table of fields in one buffer, numbers big-endian.
 -- Every definition is total: of bytes that are no container it says something, and `wellFormed` says that they are
 -- none.
-use Prim.Native.Nat.{ℕ, zero, suc, _+_, _*_}
+use Prim.Native.Nat.{ℕ, zero, suc, _+_, _-_, _*_, max}
 use mathlib.Core.List.{List, [], _∷_, _++_}
 use lib.ListN.{take, drop}
 use Rattle.octets.specs.Numbers.{numberAt}
@@ -67,17 +67,17 @@ leasesAt = offsetAt + sizeWidth
 abbrev pub dataAt : ℕ
 dataAt = leasesAt + fixedPlaces * recordSize
 
--- Where the extra-lease count stands beside s bytes of data (C5, C8).
-unfoldable pub countAt : ℕ → ℕ
-countAt s = dataAt + s
-
--- Where the extra leases begin, behind the count (C9).
+-- Where the extra leases begin, behind a count at o (C9).
 abbrev pub extrasAt : ℕ → ℕ
-extrasAt s = countAt s + countSize
+extrasAt o = o + countSize
 
--- The used length with s bytes of data and e extra leases (C12).
+-- The used length with the count at o and e extra leases (C12).
 unfoldable pub usedLength : ℕ → ℕ → ℕ
-usedLength s e = extrasAt s + recordSize * e
+usedLength o e = extrasAt o + recordSize * e
+
+-- Where a count that stood at o stands beside s bytes of data: there, or at their end where that is higher (W8).
+unfoldable pub movedCount : ℕ → ℕ → ℕ
+movedCount o s = max o (dataAt + s)
 
 -- The shortest buffer holds the fields, no data and no extra lease; the longest (F1).
 abbrev pub least : ℕ
@@ -86,7 +86,7 @@ least = dataAt + countSize
 abbrev pub limit : ℕ
 limit = 65536
 
--- The fields: node id, write enabler, data size s, data, extra-lease count e (C2 to C8).
+-- The fields: node id, write enabler, data size s, data, the count's place, extra-lease count e (C2 to C8).
 unfoldable pub nodeOf : List ℕ → List ℕ
 nodeOf c = take nodeSize (drop nodeAt c)
 
@@ -99,15 +99,22 @@ sizeOf c = numberAt sizeWidth sizeAt c
 unfoldable pub dataOf : List ℕ → List ℕ
 dataOf c = take (sizeOf c) (drop dataAt c)
 
-unfoldable pub extrasOf : List ℕ → ℕ
-extrasOf c = numberAt countSize (countAt (sizeOf c)) c
+unfoldable pub countAt : List ℕ → ℕ
+countAt c = numberAt sizeWidth offsetAt c
 
--- Where the data of a container ends, and where its used bytes end (C7, C12).
+unfoldable pub extrasOf : List ℕ → ℕ
+extrasOf c = numberAt countSize (countAt c) c
+
+-- Where the data of a container ends, and where its used bytes end (C12, C13).
 abbrev pub dataEnd : List ℕ → ℕ
 dataEnd c = dataAt + sizeOf c
 
 abbrev pub usedEnd : List ℕ → ℕ
-usedEnd c = usedLength (sizeOf c) (extrasOf c)
+usedEnd c = usedLength (countAt c) (extrasOf c)
+
+-- How many bytes of slack there are: those between data and count (C22).
+unfoldable pub slackOf : List ℕ → ℕ
+slackOf c = countAt c - dataEnd c
 
 -- The n lease records from p on (C6, C9).
 unfoldable pub records : ℕ → ℕ → List ℕ → List (List ℕ)
@@ -116,7 +123,7 @@ records (suc n) p c = take recordSize (drop p c) ∷ records n (p + recordSize) 
 
 -- The lease places: the four, then the extras (C14).
 unfoldable pub leasesOf : List ℕ → List (List ℕ)
-leasesOf c = records fixedPlaces leasesAt c ++ records (extrasOf c) (extrasAt (sizeOf c)) c
+leasesOf c = records fixedPlaces leasesAt c ++ records (extrasOf c) (extrasAt (countAt c)) c
 
 -- The fields of a lease record (C15 to C18).
 unfoldable pub ownerOf : List ℕ → ℕ

@@ -1,5 +1,5 @@
--- A container's bytes as the code that changes them sees them: head, data, tail, zeros; and where each lease place
--- stands.
+-- A container's bytes as the code that changes them sees them: head, data with its slack, tail, zeros; and where each
+-- lease place stands.
 use Prim.Native.Nat.{ℕ, _+_, _-_, _*_, _≤_}
 use mathlib.Core.Path.{_≡_}
 use mathlib.Core.Bool.{cond}
@@ -12,15 +12,15 @@ use Rattle.format.specs.Layout.{leasesAt, dataAt, extrasAt, countSize, r
 abbrev pub tailSize : ℕ → ℕ
 tailSize e = countSize + recordSize * e
 
--- c has n bytes: a head h, s bytes of data d, a tail t of k bytes, and zeros.
-pub record Laid (n s k : ℕ) (c h d t : List ℕ) : Type 0 where
-  pub is : c ≡ h ++ (d ++ (t ++ replicate (n - (dataAt + s + k)) 0))
+-- c has n bytes: a head h, data and slack d up to the count's place o, a tail t of k bytes, and zeros.
+pub record Laid (n o k : ℕ) (c h d t : List ℕ) : Type 0 where
+  pub is : c ≡ h ++ (d ++ (t ++ replicate (n - (o + k)) 0))
   pub head : length h ≡ dataAt
-  pub sized : length d ≡ s
+  pub upto : dataAt + length d ≡ o
   pub tail : length t ≡ k
-  pub fits : dataAt + s + k ≤ n
+  pub fits : o + k ≤ n
 
--- Where lease place i begins beside s bytes of data: the four, then the extras behind the count (docs/RULES.md, C14).
+-- Where lease place i begins with the count at o: the four, then the extras behind the count (docs/RULES.md, C14).
 unfoldable pub placeAt : ℕ → ℕ → ℕ
-placeAt s i =
-    cond (ltb i fixedPlaces) (leasesAt + recordSize * i) (extrasAt s + recordSize * (i - fixedPlaces))
+placeAt o i =
+    cond (ltb i fixedPlaces) (leasesAt + recordSize * i) (extrasAt o + recordSize * (i - fixedPlaces))

@@ -1,13 +1,14 @@
 // Well-formedness, judged in one pass over the buffer.
 ghost use mathlib.Core.Path.{_≡_};
 ghost use mathlib.Core.Bool.{true};
-ghost use Prim.Native.Nat.{_+_, _*_, _≤_};
+ghost use Prim.Native.Nat.{_+_, _-_, _*_, _≤_};
 ghost use lib.ListN.{length, take, drop};
 ghost use Rattle.octets.specs.Strings.{allZero, same};
 ghost use Rattle.octets.specs.Lists.{every};
 ghost use Rattle.format.specs.Layout.{magic, nodeAt, recordSize, limit, records};
 ghost use Rattle.format.specs.Container.{lengthAllowed, recordOk, lastHeld, contentsOk};
 ghost use Rattle.format.specs.Judging.{fieldsFound, Framed, Judges};
+use crate::layout::COUNT_SIZE;
 use crate::layout::DATA_AT;
 use crate::layout::EXTRA_LIMIT;
 use crate::layout::FIXED_PLACES;
@@ -78,11 +79,11 @@ fn last_held(c: &[u8], from: usize, n: usize) -> bool
     octets::numbers::u32_at(c, from + RECORD_SIZE * (n - 1)) != 0
 }
 
-fn zero_from(c: &[u8], used: usize) -> bool
-    requires { ⌜ used ≤ length (now c) ⌝ }
-    ensures { λ r. ⌜ r ≡ allZero (drop used (now (c .entry))) ⌝ }
+fn zero_between(c: &[u8], from: usize, to: usize) -> bool
+    requires { ⌜ (from ≤ to) × (to ≤ length (now c)) ⌝ }
+    ensures { λ r. ⌜ r ≡ allZero (take (to - from) (drop from (now (c .entry)))) ⌝ }
 {
-    octets::strings::all_zero(&c[used..])
+    octets::strings::all_zero(&c[from..to])
 }
 
 // Magic, offset field, count, and that all lies inside; sums are made only after their parts are known to be small.
@@ -99,14 +100,21 @@ fn find_fields(c: &[u8]) -> Fields
         return Fields::Disagree;
     }
     let offset = octets::numbers::u64_at(c, OFFSET_AT) as usize;
-    if offset != DATA_AT + size {
+    if offset < DATA_AT + size {
+        return Fields::Disagree;
+    }
+    if n - COUNT_SIZE < offset {
         return Fields::Disagree;
     }
     let extras = octets::numbers::u32_at(c, offset) as usize;
     if EXTRA_LIMIT < extras {
         return Fields::Disagree;
     }
-    let frame = Frame { size, extras };
+    let frame = Frame {
+        size,
+        offset,
+        extras,
+    };
     if n < frame.used() {
         return Fields::Disagree;
     }
@@ -128,7 +136,10 @@ fn contents_ok(c: &[u8], frame: Frame) -> bool
     if !last_held(c, from, extras) {
         return false;
     }
-    zero_from(c, frame.used())
+    if !zero_between(c, frame.used(), c.len()) {
+        return false;
+    }
+    zero_between(c, frame.data_end(), frame.offset)
 }
 
 pub fn judge(c: &[u8]) -> Judged

@@ -1,7 +1,7 @@
 // The table of the container: sizes, places and limits, each derived from those before it.
 ghost use mathlib.Core.Path.{_≡_};
 ghost use Prim.Native.Nat.{_+_, _≤_};
-ghost use Rattle.format.specs.Layout.{leaseLimit, dataAt, limit, countAt, extrasAt, usedLength};
+ghost use Rattle.format.specs.Layout.{leaseLimit, dataAt, limit, extrasAt, usedLength};
 ghost use Rattle.format.specs.Judging.{resizedTo, withExtra};
 ghost use Rattle.format.specs.View.{tailSize, placeAt};
 
@@ -52,9 +52,10 @@ pub const LEAST: usize = DATA_AT + COUNT_SIZE;
 
 pub const LIMIT: usize = 65536;
 
-// What judging a container finds: the data size and the number of extra leases.
+// What judging a container finds: the data size, the offset of the extra-lease count, and the number of extra leases.
 pub struct Frame {
     pub size: usize,
+    pub offset: usize,
     pub extras: usize,
 }
 
@@ -67,20 +68,12 @@ impl Frame {
         DATA_AT + self.size
     }
 
-    // Where the extra-lease count stands. The size may be one that a request would reach.
-    pub fn count_at(self) -> usize
-        requires { ⌜ self .size ≤ 4294967296 ⌝ }
-        ensures { λ r. ⌜ r ≡ countAt (self .size) ⌝ }
-    {
-        DATA_AT + self.size
-    }
-
     // Where the extra leases begin.
     pub fn extras_at(self) -> usize
-        requires { ⌜ self .size ≤ limit ⌝ }
-        ensures { λ r. ⌜ r ≡ extrasAt (self .size) ⌝ }
+        requires { ⌜ self .offset ≤ limit ⌝ }
+        ensures { λ r. ⌜ r ≡ extrasAt (self .offset) ⌝ }
     {
-        self.count_at() + COUNT_SIZE
+        self.offset + COUNT_SIZE
     }
 
     // The size of count and extra leases.
@@ -91,20 +84,22 @@ impl Frame {
         COUNT_SIZE + RECORD_SIZE * self.extras
     }
 
-    // The used length.
+    // The used length. The count's place may be one that a request would reach.
     pub fn used(self) -> usize
-        requires { ⌜ (self .size ≤ 4294967296) × (self .extras ≤ leaseLimit) ⌝ }
-        ensures { λ r. ⌜ r ≡ usedLength (self .size) (self .extras) ⌝ }
+        requires { ⌜ (self .offset ≤ dataAt + 4294967296) × (self .extras ≤ leaseLimit) ⌝ }
+        ensures { λ r. ⌜ r ≡ usedLength (self .offset) (self .extras) ⌝ }
     {
-        self.count_at() + self.tail_size()
+        self.offset + self.tail_size()
     }
 
-    // The frame with another size of the data.
+    // The frame with another size of the data, one that a request would reach: the count moves where it must.
     pub fn resized(self, size: usize) -> Frame
+        requires { ⌜ size ≤ 4294967296 ⌝ }
         ensures { λ r. ⌜ r ≡ resizedTo self size ⌝ }
     {
         Frame {
             size: size,
+            offset: octets::choices::greater(self.offset, DATA_AT + size),
             extras: self.extras,
         }
     }
@@ -116,14 +111,15 @@ impl Frame {
     {
         Frame {
             size: self.size,
+            offset: self.offset,
             extras: self.extras + 1,
         }
     }
 
     // Where lease place i begins: the four, then the extras.
     pub fn place_at(self, i: usize) -> usize
-        requires { ⌜ (self .size ≤ limit) × (i ≤ leaseLimit) ⌝ }
-        ensures { λ r. ⌜ r ≡ placeAt (self .size) i ⌝ }
+        requires { ⌜ (self .offset ≤ limit) × (i ≤ leaseLimit) ⌝ }
+        ensures { λ r. ⌜ r ≡ placeAt (self .offset) i ⌝ }
     {
         if i < FIXED_PLACES {
             return LEASES_AT + RECORD_SIZE * i;

@@ -49,6 +49,7 @@ parts-agree p q d l r = λ i. record {
   node = d i .node;
   enabler = d i .enabler;
   bytes = d i .bytes;
+  slack = d i .slack;
   leases =
       l i .leases;
 }

@@ -7,7 +7,7 @@ use lib.ListN.{length}
 use lib.Dec.{eqb, leb}
 use borrow.Author.Tests.{not-true, not-false}
 use Rattle.octets.specs.Moves.{put}
-use Rattle.format.specs.Parts.{Parts, encode}
+use Rattle.format.specs.Parts.{Parts, countIn, encode}
 use Rattle.format.specs.Claims.{Valid}
 use Rattle.format.proofs.RoundTrip.{parts-encode}
 use Rattle.rules.specs.Requests.{requestOf, kindOf, testWriteOf}
@@ -55,12 +55,13 @@ pub leaves-roomy : (x : Call) (p : Parts) → noRoom (ruleHears x p) ≡ false �
 unfolding ruleLeaves leftBy
 leaves-roomy x p e = ap (λ (n : ℕ). leftBy n x p) (outcome-roomy x p e)
 
--- ---- the two sides of the parts: the data with the node id and the enabler; the leases with the node id
+-- ---- the two sides of the parts: data and slack with the node id and the enabler; the leases with the node id
 unfoldable pub dataSide : Parts → Parts
-dataSide p = record { room = 0; node = p .node; enabler = p .enabler; bytes = p .bytes; leases = [] }
+dataSide p =
+    record { room = 0; node = p .node; enabler = p .enabler; bytes = p .bytes; slack = p .slack; leases = [] }
 
 unfoldable pub leaseSide : Parts → Parts
-leaseSide p = record { room = 0; node = p .node; enabler = []; bytes = []; leases = p .leases }
+leaseSide p = record { room = 0; node = p .node; enabler = []; bytes = []; slack = 0; leases = p .leases }
 
 -- by the first byte
 pub lease-kind : (x : Call) (k : ℕ) → kindOf (x .request) ≡ k → isLease x ≡ (leb 2 k && leb k 4)
@@ -87,7 +88,7 @@ same-choice false p = refl
 
 data-alone-by : (x : Call) (p : Parts) → isLease x ≡ false → Kinds (x .request) → Alone dataSide x p
 unfolding heardBy leftBy earlyOf early earlyRows firstRow dataSide rows admitRows findRows replyTo replyBytes maybe
-    counted answerTo afterOf after withBytes testWriteOf
+    counted answerTo afterOf after withBytes countIn testWriteOf
 data-alone-by x p l (broken e) = record { number = rw e refl; heard = rw e refl; after-side = rw e refl }
 data-alone-by x p l (tests k h o e) = record { number = rw e refl; heard = rw e refl; after-side = rw e refl }
 data-alone-by x p l (adds k o e) = never (lease-kind x 2 k) l

@@ -15,24 +15,25 @@ use Rattle.octets.specs.Facts.{Octets, Each}
 use Rattle.octets.specs.Moves.{put}
 use Rattle.octets.proofs.NumberLaws.{length-digits, digits-at}
 use Rattle.octets.proofs.StringLaws.{zeros-are, octets-take, octets-drop, join-snoc}
-use Rattle.format.specs.Layout.{expiryOf, countSize, recordSize, fixedPlaces, leasesAt, dataAt, leasesOf}
-use Rattle.format.specs.Layout.{dataOf, usedLength, countAt, extrasAt, records, expiryAt, renewalAt}
+use Rattle.format.specs.Layout.{expiryOf, countSize, recordSize, fixedPlaces, leasesAt, leasesOf}
+use Rattle.format.specs.Layout.{dataOf, slackOf, usedLength, extrasAt, records, expiryAt, renewalAt}
 use Rattle.format.specs.Container.{held, recordOk}
 use Rattle.format.specs.Claims.{Place, Valid}
-use Rattle.format.specs.Parts.{extras, Parts, frontOf, headOf, tailOf, partsOf, used, noLease}
+use Rattle.format.specs.Parts.{extras, Parts, frontOf, headOf, tailOf, partsOf, countIn, used, noLease}
 use Rattle.octets.proofs.ListLaws.{each-take, each-drop, each-set, part-part, field-then}
-use Rattle.format.proofs.RoundTrip.{parts-valid, places-sizes, no-lease, records-back}
+use Rattle.format.proofs.RoundTrip.{count-is, parts-count, parts-valid, places-sizes, no-lease, records-back}
 use Rattle.format.proofs.RoundTrip.{encode-parts}
 use Rattle.rules.specs.Leasing.{later, withLast, trim, dropTail, extended}
 use Rattle.rules.specs.Outcomes.{withLeases}
 use Rattle.octets.proofs.MoveLaws.{put-over, put-right, put-within, zeros-split}
 use Rattle.format.specs.View.{tailSize, Laid, placeAt}
-use Rattle.format.proofs.ViewLaws.{length-front, laid-encoded, formed-laid, put-head, put-behind, put-tail, tail-less}
+use Rattle.format.proofs.ViewLaws.{length-front, loose, laid-encoded, formed-laid, put-head, put-behind, put-tail}
+use Rattle.format.proofs.ViewLaws.{tail-less}
 use Rattle.format.specs.Judging.{Known}
-use Rattle.format.proofs.WellFormed.{length-leases, used-is, count-is}
+use Rattle.format.proofs.WellFormed.{length-leases, used-is}
 use Rattle.leases.specs.Changes.{leasedAs}
 use Rattle.leases.proofs.PlaceLaws.{known-places, by-place, fixed-at, extra-at, lease-at, place-inside}
-use Rattle.format.proofs.KnownLaws.{data-framed, extras-framed}
+use Rattle.format.proofs.KnownLaws.{frame-count, extras-framed}
 use Rattle.rules.proofs.LeaseLaws.{length-trim, length-later}
 use Rattle.format.specs.declared.layout.Frame.{Frame}
 
@@ -98,7 +99,7 @@ module _ (p : Parts) (v : Valid p) (i : ℕ) (r : List ℕ) (l : length r ≡ re
   -- one of the four
   module _ (g : i < fixedPlaces) where
     head-set : put (leasesAt + recordSize * i) r (headOf p) ≡ headOf q
-    unfolding headOf frontOf withLeases
+    unfolding headOf frontOf countIn withLeases
     head-set =
         let f : List (List ℕ) = take fixedPlaces ls in
         let lf : i < length f = rw length-take (omega arith) in
@@ -113,7 +114,7 @@ module _ (p : Parts) (v : Valid p) (i : ℕ) (r : List ℕ) (l : length r ≡ re
   -- an extra place
   module _ (g : fixedPlaces ≤ i) where
     head-same : headOf p ≡ headOf q
-    unfolding headOf frontOf withLeases
+    unfolding headOf frontOf countIn withLeases
     head-same = rw (take-set-le fixedPlaces ls i r g)
 
     tail-set : put (tailSize (i - fixedPlaces)) r (tailOf p) ≡ tailOf q
@@ -151,7 +152,7 @@ module _ (p : Parts) (h : fixedPlaces ≤ length (p .leases)) where
   -- a record behind the extras, and the count with it
   module _ (r : List ℕ) where
     head-more : headOf p ≡ headOf (withLeases p (p .leases ++ (r ∷ [])))
-    unfolding headOf frontOf withLeases
+    unfolding headOf frontOf countIn withLeases
     head-more = rw (take-append-le fixedPlaces (p .leases) (r ∷ []) h)
 
     tail-more : put 0 (digits countSize (count + 1)) (tailOf p ++ r) ≡ tailOf (withLeases p (p .leases ++ (r ∷ [])))
@@ -170,7 +171,7 @@ module _ (p : Parts) (h : fixedPlaces ≤ length (p .leases)) where
   four-long = length-take-le fixedPlaces (p .leases) h
 
   head-trimmed : headOf p ≡ headOf (withLeases p (dropTail (p .leases)))
-  unfolding headOf frontOf withLeases dropTail
+  unfolding headOf frontOf countIn withLeases dropTail
   head-trimmed = rw (take-at four (trim more) fixedPlaces four-long)
 
   extras-trimmed : extras (dropTail (p .leases)) ≡ length (trim more)
@@ -212,25 +213,29 @@ later-same x r l o h =
 
 -- ---- the changes
 -- the extras of a view, read back
-extras-back : {n s k : ℕ} {c h d : List ℕ} (m : ℕ) (x : List (List ℕ)) →
-    Laid n s k c h d (digits countSize m ++ join x) → Each (λ r. length r ≡ recordSize) x →
-    records (length x) (extrasAt s) c ≡ x
-extras-back {n} {s} {k} {c} {h} {d} m x l e =
-    let z : List ℕ = replicate (n - (dataAt + s + k)) 0 in
+extras-back : {n a k : ℕ} {c h d : List ℕ} (m : ℕ) (x : List (List ℕ)) →
+    Laid n a k c h d (digits countSize m ++ join x) → Each (λ r. length r ≡ recordSize) x →
+    records (length x) (extrasAt a) c ≡ x
+extras-back {n} {a} {k} {c} {h} {d} m x l e =
+    let z : List ℕ = replicate (n - (a + k)) 0 in
     let t : List ℕ = digits countSize m ++ join x ++ z in
-    let a : drop (dataAt + s) c ≡ t =
-    ap (drop (dataAt + s)) (l .is) ∙ sym (drop-drop s dataAt (h ++ (d ++ t)))
-    ∙ ap (drop s) (drop-at h (d ++ t) dataAt (l .head)) ∙ drop-at d t s (l .sized) in
-    let b : drop (extrasAt s) c ≡ join x ++ z =
-    sym (drop-drop countSize (countAt s) c)
-    ∙ ap (drop countSize) (ap (λ (i : ℕ). drop i c) (count-is s) ∙ a ∙ append-assoc (digits countSize m) (join x) z)
+    let lp : length (h ++ d) ≡ a = rw length-append (omega (arith, l .head, l .upto)) in
+    let y : drop a c ≡ t =
+    ap (drop a) (l .is ∙ sym (append-assoc h d t)) ∙ drop-at (h ++ d) t a lp in
+    let b : drop (extrasAt a) c ≡ join x ++ z =
+    sym (drop-drop countSize a c) ∙ ap (drop countSize) (y ∙ append-assoc (digits countSize m) (join x) z)
     ∙ drop-at (digits countSize m) (join x ++ z) countSize (length-digits countSize m) in
-    records-back (length x) (extrasAt s) c x z b refl e
+    records-back (length x) (extrasAt a) c x z b refl e
+
+count-leased : (c : List ℕ) (f : Frame) → Known c f → (ls : List (List ℕ)) →
+    countIn (withLeases (partsOf c) ls) ≡ f .offset
+unfolding countIn withLeases
+count-leased c f k ls = sym (count-is (partsOf c)) ∙ parts-count c (k .formed) ∙ sym (frame-count k)
 
 pub used-leases : (c : List ℕ) (f : Frame) → Known c f → (ls : List (List ℕ)) →
-    used (withLeases (partsOf c) ls) ≡ usedLength (f .size) (extras ls)
+    used (withLeases (partsOf c) ls) ≡ usedLength (f .offset) (extras ls)
 unfolding used withLeases partsOf
-used-leases c f k ls = rw (data-framed k)
+used-leases c f k ls = rw (count-leased c f k ls)
 
 module _ (c : List ℕ) (f : Frame) (k : Known c f) (o : Octets c) where
   abbrev P : Parts
@@ -238,14 +243,16 @@ module _ (c : List ℕ) (f : Frame) (k : Known c f) (o : Octets c) where
 
   -- d has the view of c with the leases ls, and m bytes of tail
   abbrev Leased : List (List ℕ) → ℕ → List ℕ → Type 0
-  Leased ls m d = Laid (length c) (f .size) m d (headOf (withLeases P ls)) (dataOf c) (tailOf (withLeases P ls))
+  Leased ls m d =
+      Laid (length c) (f .offset) m d (headOf (withLeases P ls)) (loose (dataOf c) (slackOf c))
+      (tailOf (withLeases P ls))
 
   leased : (ls : List (List ℕ)) (m : ℕ) (d : List ℕ) → Leased ls m d → m ≡ tailSize (extras ls) →
       d ≡ leasedAs c ls
   unfolding withLeases partsOf
   leased ls m d l e =
-      laid-encoded (withLeases P ls) (f .size) m d l
-      (used-leases c f k ls ∙ rw e (omega (arith, used-is (f .size) (extras ls))))
+      laid-encoded (withLeases P ls) m d (rw (count-leased c f k ls) l)
+      (used-leases c f k ls ∙ rw (e, count-leased c f k ls) (omega (arith, used-is (f .offset) (extras ls))))
 
   abbrev size : ℕ
   size = tailSize (f .extras)
@@ -258,7 +265,7 @@ module _ (c : List ℕ) (f : Frame) (k : Known c f) (o : Octets c) where
 
   -- a record put at a place
   laid-set : (i : ℕ) (r : List ℕ) → i < fixedPlaces + f .extras → length r ≡ recordSize →
-      Leased (set (leasesOf c) i r) size (put (placeAt (f .size) i) r c)
+      Leased (set (leasesOf c) i r) size (put (placeAt (f .offset) i) r c)
   unfolding partsOf
   laid-set i r h l =
       let g : i < length (leasesOf c) = omega (arith, known-places c f k) in
@@ -266,31 +273,31 @@ module _ (c : List ℕ) (f : Frame) (k : Known c f) (o : Octets c) where
       let j : ℕ = recordSize * (i - fixedPlaces) in
       by-place i
       (λ (b : i < fixedPlaces).
-      rw (fixed-at (f .size) i b, ← head-set P valid i r l g b, ← tail-same P valid i r l g b)
+      rw (fixed-at (f .offset) i b, ← head-set P valid i r l g b, ← tail-same P valid i r l g b)
       (put-head w (leasesAt + recordSize * i) r (omega arith)))
       (λ (b : fixedPlaces ≤ i).
-      rw (extra-at (f .size) i b, ← head-same P valid i r l g b, ← tail-set P valid i r l g b)
-      (put-tail w (extrasAt (f .size) + j) (countSize + j) r (omega (arith, count-is (f .size)))
+      rw (extra-at (f .offset) i b, ← head-same P valid i r l g b, ← tail-set P valid i r l g b)
+      (put-tail w (extrasAt (f .offset) + j) (countSize + j) r (omega arith)
       (omega arith)))
 
   pub put-place : (i : ℕ) (r : List ℕ) → i < fixedPlaces + f .extras → length r ≡ recordSize →
-      put (placeAt (f .size) i) r c ≡ leasedAs c (set (leasesOf c) i r)
+      put (placeAt (f .offset) i) r c ≡ leasedAs c (set (leasesOf c) i r)
   put-place i r h l =
       leased (set (leasesOf c) i r) size _ (laid-set i r h l) (rw (extras-set (leasesOf c) i r, extras-framed k))
 
   -- a new extra
-  pub put-extra : (r : List ℕ) → usedLength (f .size) (f .extras + 1) ≤ length c → length r ≡ recordSize →
-      put (countAt (f .size)) (digits countSize (f .extras + 1)) (put (usedLength (f .size) (f .extras)) r c)
+  pub put-extra : (r : List ℕ) → usedLength (f .offset) (f .extras + 1) ≤ length c → length r ≡ recordSize →
+      put (f .offset) (digits countSize (f .extras + 1)) (put (usedLength (f .offset) (f .extras)) r c)
       ≡ leasedAs c (leasesOf c ++ (r ∷ []))
   unfolding partsOf
   put-extra r h l =
       let ls : List (List ℕ) = leasesOf c ++ (r ∷ []) in
       let n : List ℕ = digits countSize (f .extras + 1) in
       let e = extras-framed k in
-      let u = used-is (f .size) in
-      let b = put-behind (formed-laid c f k o) (usedLength (f .size) (f .extras)) r (omega (arith, u (f .extras)))
+      let u = used-is (f .offset) in
+      let b = put-behind (formed-laid c f k o) (usedLength (f .offset) (f .extras)) r (omega (arith, u (f .extras)))
       (omega (arith, h, u (f .extras + 1))) in
-      let w = put-tail b (countAt (f .size)) 0 n (omega (arith, count-is (f .size)))
+      let w = put-tail b (f .offset) 0 n (omega arith)
       (omega (arith, length-digits countSize (f .extras + 1))) in
       let t : put 0 n (tailOf P ++ r) ≡ tailOf (withLeases P ls) =
       ap (λ (m : ℕ). put 0 (digits countSize (m + 1)) (tailOf P ++ r)) (sym e) ∙ tail-more P long r in
@@ -298,7 +305,7 @@ module _ (c : List ℕ) (f : Frame) (k : Known c f) (o : Octets c) where
       (rw (extras-more (leasesOf c) r long, e) (omega arith))
 
   -- an emptied place, and the tail dropped
-  module _ (i : ℕ) (h : i < fixedPlaces + f .extras) (d : List ℕ) (e : d ≡ put (placeAt (f .size) i) noLease c) where
+  module _ (i : ℕ) (h : i < fixedPlaces + f .extras) (d : List ℕ) (e : d ≡ put (placeAt (f .offset) i) noLease c) where
     abbrev emptied : List (List ℕ)
     emptied = set (leasesOf c) i noLease
 
@@ -326,14 +333,14 @@ module _ (c : List ℕ) (f : Frame) (k : Known c f) (o : Octets c) where
     laid = rw e (laid-set i noLease h (no-lease .size))
 
     -- the extras as they stand then
-    extras-read : records (f .extras) (extrasAt (f .size)) d ≡ extra
+    extras-read : records (f .extras) (extrasAt (f .offset)) d ≡ extra
     unfolding tailOf withLeases
     extras-read =
         rw (← extra-long)
         (extras-back (extras emptied) extra laid (each-drop _ fixedPlaces emptied (places-sizes emptied sound)))
 
-    pub drop-tail : (n : ℕ) → n ≡ length (trim (records (f .extras) (extrasAt (f .size)) d)) →
-        put (countAt (f .size)) (digits countSize n) d ≡ leasedAs c (dropTail emptied)
+    pub drop-tail : (n : ℕ) → n ≡ length (trim (records (f .extras) (extrasAt (f .offset)) d)) →
+        put (f .offset) (digits countSize n) d ≡ leasedAs c (dropTail emptied)
     unfolding withLeases
     drop-tail n q =
         let m : n ≡ length (trim extra) = q ∙ ap (λ (g : List (List ℕ)). length (trim g)) extras-read in
@@ -341,7 +348,7 @@ module _ (c : List ℕ) (f : Frame) (k : Known c f) (o : Octets c) where
         let u : List ℕ = digits countSize (extras emptied) ++ join (trim extra) in
         let few : length (trim extra) ≤ f .extras = omega (arith, length-trim extra, extra-long) in
         let w = put-tail (tail-less laid j u (tail-split Q as-long sound) (omega (arith, as-many)))
-        (countAt (f .size)) 0 (digits countSize n) (omega (arith, count-is (f .size)))
+        (f .offset) 0 (digits countSize n) (omega arith)
         (omega (arith, length-digits countSize n, as-many)) in
         let t : put 0 (digits countSize n) u ≡ tailOf (withLeases P (dropTail emptied)) =
         ap (λ (a : ℕ). put 0 (digits countSize a) u) m ∙ tail-trimmed Q as-long in
@@ -349,7 +356,7 @@ module _ (c : List ℕ) (f : Frame) (k : Known c f) (o : Octets c) where
         (rw (extras-trimmed Q as-long) (omega (arith, as-many)))
 
   -- a place that keeps the later expiry
-  module _ (i x p : ℕ) (h : i < fixedPlaces + f .extras) (q : p ≡ placeAt (f .size) i) where
+  module _ (i x p : ℕ) (h : i < fixedPlaces + f .extras) (q : p ≡ placeAt (f .offset) i) where
     abbrev r : List ℕ
     r = take recordSize (drop p c)
 

@@ -292,18 +292,18 @@ module _ (c : List ℕ) (f : Frame) (k : Known c f) where
             done c (add r) (set (leasesOf c) i r) (n + 1) d b refl (omega (arith, m, p)) w
 
         module _ (q : Finds c vacant Nowhere) where
-          used-more : used (withLeases (partsOf c) (leasesOf c ++ (r ∷ []))) ≡ usedLength (f .size) (f .extras + 1)
+          used-more : used (withLeases (partsOf c) (leasesOf c ++ (r ∷ []))) ≡ usedLength (f .offset) (f .extras + 1)
           used-more =
               used-leases c f k (leasesOf c ++ (r ∷ []))
               ∙ rw (extras-more (leasesOf c) r (omega (arith, known-places c f k)), extras-framed k)
 
-          pub place-nowhere : length c < usedLength (f .size) (f .extras + 1) → Answered c (add r) 11 0 c
+          pub place-nowhere : length c < usedLength (f .offset) (f .extras + 1) → Answered c (add r) 11 0 c
           unfolding partsOf
           place-nowhere h =
               refused c (add r) 10
               (add-room (partsOf c) r new (omega (arith, m)) (found-nowhere _ q) (omega (arith, h, used-more)))
 
-          pub place-extra : (d : List ℕ) → usedLength (f .size) (f .extras + 1) ≤ length c → held r ≡ true →
+          pub place-extra : (d : List ℕ) → usedLength (f .offset) (f .extras + 1) ≤ length c → held r ≡ true →
               d ≡ leasedAs c (leasesOf c ++ (r ∷ [])) → Answered c (add r) 0 (n + 1) d
           unfolding partsOf counted present
           place-extra d h g w =

@@ -13,17 +13,17 @@ use lib.Seq.{getD-append-add}
 use borrow.Author.Tests.{ltb-true, ltb-false, lt-ltb, le-ltb}
 use Rattle.format.specs.declared.layout.Frame.{Frame}
 use borrow.Author.Count.{below-more}
-use Rattle.format.specs.Layout.{limit, leasesAt, sizeOf, extrasOf, records, leasesOf, fixedPlaces}
+use Rattle.format.specs.Layout.{limit, leasesAt, countAt, extrasOf, records, leasesOf, fixedPlaces}
 use Rattle.format.specs.View.{placeAt}
 use Rattle.format.specs.Layout.{recordSize, extrasAt}
 use Rattle.format.specs.Container.{held}
-use Rattle.format.proofs.WellFormed.{count-is, length-records, length-leases, records-add, record-at}
+use Rattle.format.proofs.WellFormed.{length-records, length-leases, records-add, record-at}
 use Rattle.rules.specs.Leasing.{firstOf, withLast, trim, present}
 use Rattle.rules.proofs.LeaseLaws.{length-trim}
 use Rattle.format.specs.Judging.{Known}
 use Rattle.octets.specs.Lists.{maybe}
 use Rattle.format.proofs.JudgingLaws.{Sized, known-sized, known-most}
-use Rattle.format.proofs.KnownLaws.{frame-size, frame-extras}
+use Rattle.format.proofs.KnownLaws.{frame-count, frame-extras}
 
 -- ---- a known container in numbers
 pub known-bounds : (c : List ℕ) (f : Frame) → Known c f → Sized c f × (length c ≤ limit)
@@ -33,13 +33,13 @@ pub known-places : (c : List ℕ) (f : Frame) → Known c f → length (leasesOf
 known-places c f k = rw (frame-extras k) (length-leases c)
 
 -- ---- one place
-pub fixed-at : (s i : ℕ) → i < fixedPlaces → placeAt s i ≡ leasesAt + recordSize * i
+pub fixed-at : (o i : ℕ) → i < fixedPlaces → placeAt o i ≡ leasesAt + recordSize * i
 unfolding placeAt
-fixed-at s i h = rw (lt-ltb i fixedPlaces h)
+fixed-at o i h = rw (lt-ltb i fixedPlaces h)
 
-pub extra-at : (s i : ℕ) → fixedPlaces ≤ i → placeAt s i ≡ extrasAt s + recordSize * (i - fixedPlaces)
+pub extra-at : (o i : ℕ) → fixedPlaces ≤ i → placeAt o i ≡ extrasAt o + recordSize * (i - fixedPlaces)
 unfolding placeAt
-extra-at s i h = rw (le-ltb i fixedPlaces h)
+extra-at o i h = rw (le-ltb i fixedPlaces h)
 
 -- by whether a place is one of the four
 pub by-place : {A : Type 0} (i : ℕ) → (i < fixedPlaces → A) → (fixedPlaces ≤ i → A) → A
@@ -50,27 +50,27 @@ by-place {A} i a b = go (ltb i fixedPlaces) refl
     go false q = b (ltb-false i fixedPlaces q)
 
 module _ (c : List ℕ) (f : Frame) (k : Known c f) (i : ℕ) (h : i < fixedPlaces + f .extras) where
-  pub place-inside : placeAt (f .size) i + recordSize ≤ length c
+  pub place-inside : placeAt (f .offset) i + recordSize ≤ length c
   place-inside =
       let z = known-sized c f k in
-      by-place i (λ g. rw (fixed-at (f .size) i g) (omega arith))
-      (λ g. rw (extra-at (f .size) i g) (omega (arith, count-is (f .size))))
+      by-place i (λ g. rw (fixed-at (f .offset) i g) (omega arith))
+      (λ g. rw (extra-at (f .offset) i g) (omega arith))
 
-  pub lease-at : getD (leasesOf c) i [] ≡ take recordSize (drop (placeAt (f .size) i) c)
+  pub lease-at : getD (leasesOf c) i [] ≡ take recordSize (drop (placeAt (f .offset) i) c)
   unfolding leasesOf
   lease-at = by-place i
-      (λ g. rw (fixed-at (f .size) i g)
+      (λ g. rw (fixed-at (f .offset) i g)
       (List·getD-append a b [] i (rw (length-records fixedPlaces leasesAt c) g) ∙ record-at fixedPlaces leasesAt i c g))
-      (λ g. rw (extra-at (f .size) i g, frame-size k)
+      (λ g. rw (extra-at (f .offset) i g, frame-count k)
       (let z : i ≡ length a + (i - fixedPlaces) = rw (length-records fixedPlaces leasesAt c) (omega arith) in
       ap (λ (j : ℕ). getD (a ++ b) j []) z ∙ getD-append-add a b (i - fixedPlaces) []
-      ∙ record-at (extrasOf c) (extrasAt (sizeOf c)) (i - fixedPlaces) c (omega (arith, frame-extras k))))
+      ∙ record-at (extrasOf c) (extrasAt (countAt c)) (i - fixedPlaces) c (omega (arith, frame-extras k))))
     where
       a : List (List ℕ)
       a = records fixedPlaces leasesAt c
 
       b : List (List ℕ)
-      b = records (extrasOf c) (extrasAt (sizeOf c)) c
+      b = records (extrasOf c) (extrasAt (countAt c)) c
 
 -- the place at p, with the sizes
 pub record Inside (c : List ℕ) (f : Frame) (p : ℕ) : Type 0 where
@@ -79,7 +79,7 @@ pub record Inside (c : List ℕ) (f : Frame) (p : ℕ) : Type 0 where
   pub most : length c ≤ limit
 
 pub inside : (c : List ℕ) (f : Frame) → Known c f → (i : ℕ) → i < fixedPlaces + f .extras →
-    (p : ℕ) → p ≡ placeAt (f .size) i → Inside c f p
+    (p : ℕ) → p ≡ placeAt (f .offset) i → Inside c f p
 inside c f k i h p q =
     record { ends = rw q (place-inside c f k i h); sized = known-sized c f k; most = known-most c f k }
 
@@ -106,7 +106,7 @@ abbrev pub Passed : (List ℕ → Bool) → List ℕ → ℕ → Type 0
 Passed test c i = (k : ℕ) → k < i → test (getD (leasesOf c) k []) ≡ false
 
 module _ (test : List ℕ → Bool) (c : List ℕ) (f : Frame) (k : Known c f) (i : ℕ) (n : Passed test c i) where
-  module _ (p : ℕ) (h : i < fixedPlaces + f .extras) (q : p ≡ placeAt (f .size) i) where
+  module _ (p : ℕ) (h : i < fixedPlaces + f .extras) (q : p ≡ placeAt (f .offset) i) where
     read : (t : Bool) → test (take recordSize (drop p c)) ≡ t → test (getD (leasesOf c) i []) ≡ t
     read t e = ap test (lease-at c f k i h) ∙ rw (← q) e
 
@@ -148,13 +148,13 @@ present-few (suc n) p c = go (held (take recordSize (drop p c))) _ (present-few 
     go false m h = omega arith
 
 pub present-leases : (c : List ℕ) (f : Frame) → Known c f →
-    present (records fixedPlaces leasesAt c) + present (records (f .extras) (extrasAt (f .size)) c)
+    present (records fixedPlaces leasesAt c) + present (records (f .extras) (extrasAt (f .offset)) c)
     ≡ present (leasesOf c)
 unfolding leasesOf
 present-leases c f k =
     rw (
-      present-append (records fixedPlaces leasesAt c) (records (extrasOf c) (extrasAt (sizeOf c)) c),
-      frame-size k,
+      present-append (records fixedPlaces leasesAt c) (records (extrasOf c) (extrasAt (countAt c)) c),
+      frame-count k,
       frame-extras k,
     )
 

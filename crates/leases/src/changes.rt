@@ -36,13 +36,13 @@ pub(crate) fn put_record(c: &mut [u8], frame: Frame, i: usize, lease: &[u8])
 
 // The record becomes a new extra lease.
 pub(crate) fn append_record(c: &mut [u8], frame: Frame, lease: &[u8])
-    requires { ⌜ Known (now c) frame × (usedLength (frame .size) (frame .extras + 1) ≤ length (now c))
+    requires { ⌜ Known (now c) frame × (usedLength (frame .offset) (frame .extras + 1) ≤ length (now c))
         × (length (now lease) ≡ recordSize) ⌝ }
     ensures { λ _. ⌜ now (c .exit) ≡ leasedAs (now (c .entry)) (leasesOf (now (c .entry))
         ++ (now (lease .entry) ∷ [])) ⌝ }
 {
     octets::moves::copy_part(c, frame.used(), lease);
-    octets::numbers::put_u32(c, frame.count_at(), (frame.extras + 1) as u32);
+    octets::numbers::put_u32(c, frame.offset, (frame.extras + 1) as u32);
 }
 
 // Place i becomes empty, and the empty extras at the tail are dropped: their bytes are zero already, so only the count
@@ -55,5 +55,5 @@ pub(crate) fn drop_record(c: &mut [u8], frame: Frame, i: usize)
     let p = frame.place_at(i);
     octets::moves::clear_part(c, p, p + RECORD_SIZE);
     let left = crate::places::kept(c, frame.extras_at(), frame.extras);
-    octets::numbers::put_u32(c, frame.count_at(), left as u32);
+    octets::numbers::put_u32(c, frame.offset, left as u32);
 }

@@ -13,7 +13,7 @@ use rules::Answer;
 ghost use Prim.Native.Nat.{_+_, _*_, _≤_, _<_};
 ghost use lib.ListN.{length};
 ghost use Rattle.io.specs.Counts.{Counts};
-ghost use Rattle.format.specs.Layout.{recordSize};
+ghost use Rattle.format.specs.Layout.{recordSize, leaseLimit, dataAt, limit};
 ghost use Rattle.format.specs.Judging.{Known};
 
 // Longer data and more extra leases are shortened.
@@ -294,17 +294,26 @@ fn leases(c: &[u8], from: usize, n: usize, place: &[u8])
     }
 }
 
+// The sizes of a container's parts, in a buffer of n bytes.
+fn sizes(frame: Frame, n: usize)
+    requires { ⌜ (frame .offset ≤ limit) × (dataAt + frame .size ≤ frame .offset) × (frame .extras ≤ leaseLimit) ⌝ }
+{
+    write(b"the container   data size ");
+    number(frame.size as u64);
+    write(b", slack ");
+    number((frame.offset - frame.data_end()) as u64);
+    write(b", used ");
+    number(frame.used() as u64);
+    write(b" of ");
+    number(n as u64);
+    write(b" bytes\n");
+}
+
 fn parts(c: &[u8], frame: Frame)
     requires { ⌜ Known (now c) frame ⌝ }
 {
     let extras = frame.extras;
-    write(b"the container   data size ");
-    number(frame.size as u64);
-    write(b", used ");
-    number(frame.used() as u64);
-    write(b" of ");
-    number(c.len() as u64);
-    write(b" bytes\n");
+    sizes(frame, c.len());
     bytes(container::data::data_of(c));
     leases(c, LEASES_AT, FIXED_PLACES, b"place ");
     let shown = octets::choices::lesser(extras, MOST_EXTRAS);

@@ -4,7 +4,7 @@ use mathlib.Core.Path.{_≡_, refl, sym, ap, _∙_}
 use mathlib.Core.Bool.{true, false≢true}
 use mathlib.Core.List.{List, [], _∷_}
 use mathlib.Core.Option.{Option, some}
-use Prim.Native.Nat.{ℕ}
+use Prim.Native.Nat.{ℕ, _≤_}
 use native.Mathlib.Omega.{arith}
 use lib.ListN.{length}
 use lib.IntN.{ℤ, pos, negsuc}
@@ -12,12 +12,12 @@ use borrow.Author.Tests.{not-false, ltb-false, le-ltb}
 use Rattle.octets.specs.Strings.{same}
 use Rattle.octets.proofs.StringLaws.{same-eq, same-refl}
 use Rattle.format.specs.Container.{wellFormed}
-use Rattle.format.specs.Layout.{enablerOf, dataOf}
-use Rattle.format.specs.Parts.{Parts, partsOf, encode}
+use Rattle.format.specs.Layout.{enablerOf, dataOf, countAt, movedCount}
+use Rattle.format.specs.Parts.{Parts, countIn, used, partsOf, encode}
 use Rattle.octets.specs.Lists.{isSome, every, maybe}
 use Rattle.octets.specs.Facts.{Each}
 use Rattle.octets.proofs.ListLaws.{both, each-map, every-each, each-every}
-use Rattle.format.proofs.RoundTrip.{parts-encode}
+use Rattle.format.proofs.RoundTrip.{parts-count, parts-encode, count-encode}
 use Rattle.rules.specs.Requests.{Test, Write, testWrite, kindOf, byKind, testWriteOk, testWriteOf, requestOf}
 use Rattle.rules.specs.Testing.{resolve, resolves, holds}
 use Rattle.rules.specs.Writing.{writesResolve, rewritten}
@@ -27,6 +27,7 @@ use Rattle.octets.specs.Rows.{firstRow}
 use Rattle.rules.specs.Claims.{NotNegative, Accepts, Writes, Demand2}
 use Rattle.octets.proofs.RowLaws.{clear}
 use Rattle.rules.proofs.RequestLaws.{of-kind}
+use Rattle.rules.proofs.Kept.{count-with, used-rewritten}
 use Rattle.rules.proofs.NumberLaws.{done-unbroken}
 use Rattle.rules.proofs.OutcomeLaws.{outcome-formed, answered-number}
 use Rattle.rules.proofs.ReplyLaws.{done-replies}
@@ -79,6 +80,8 @@ module _ (c q : List ℕ) (n : ℕ) (w : wellFormed c ≡ true) (k : List ℕ) (
       let g = clear 8 _ _ (omega arith) (d .1) in
       let h = clear 11 _ _ (omega arith) (g .1) in
       let s : ℕ = length (dataOf c) in
+      let n : List ℕ = rewritten ws cut (dataOf c) in
+      let u : used (withBytes (partsOf c) n) ≤ length c = ltb-false _ _ (h .0) in
       let o = both (every (λ t. resolves (t .offset) s) ts) (writesResolve ws s) (not-false _ (a .0)) in
       record {
         enabler = k;
@@ -92,7 +95,7 @@ module _ (c q : List ℕ) (n : ℕ) (w : wellFormed c ≡ true) (k : List ℕ) (
         matches = same-eq k (enablerOf c) (not-false _ (b .0));
         reply-fits = ltb-false _ _ (d .0);
         all-hold = every-each (holds (dataOf c)) ts (not-false _ (g .0));
-        result-fits = ltb-false _ _ (h .0);
+        result-fits = omega (arith, used-rewritten c n w, u);
       }
 
 -- ---- and back
@@ -106,7 +109,9 @@ accepts-rows c q n a =
     let w : writesResolve (a .writes) s ≡ true = not-writes (a .writes) s (a .write-offsets) in
     let e : same (a .enabler) (enablerOf c) ≡ true = rw (a .matches) (same-refl (enablerOf c)) in
     let h : every (holds (dataOf c)) (a .tests) ≡ true = each-every (holds (dataOf c)) (a .tests) (a .all-hold) in
-    rw (t, w, e, le-ltb _ _ (a .reply-fits), h, le-ltb _ _ (a .result-fits))
+    let u : used (withBytes (partsOf c) (rewritten (a .writes) (a .cut) (dataOf c))) ≤ length c =
+    rw (used-rewritten c (rewritten (a .writes) (a .cut) (dataOf c)) (a .formed)) (a .result-fits) in
+    rw (t, w, e, le-ltb _ _ (a .reply-fits), h, le-ltb _ _ u)
 
 module _ (c q r : List ℕ) where
   accepts-done : Accepts c q (length r) → outcome c q (length r) ≡ 0
@@ -126,6 +131,13 @@ module _ (c q r : List ℕ) where
   unfolding afterOf maybe after partsOf
   after-accepts a = rw (a .format)
 
+  count-accepts : (a : Accepts c q (length r)) →
+      countIn (afterOf (partsOf c) (requestOf q))
+      ≡ movedCount (countAt c) (length (rewritten (a .writes) (a .cut) (dataOf c)))
+  count-accepts a =
+      ap countIn (after-accepts a) ∙ count-with (partsOf c) (rewritten (a .writes) (a .cut) (dataOf c))
+      ∙ rw (parts-count c (a .formed))
+
   pub done-encoded : (a : Accepts c q (length r)) →
       containerAfter c q r ≡ encode (withBytes (partsOf c) (rewritten (a .writes) (a .cut) (dataOf c)))
   done-encoded a = done-container c q r (accepts-done a) ∙ ap encode (after-accepts a)
@@ -138,6 +150,7 @@ module _ (c q r : List ℕ) where
       ap partsOf (done-container c q r e) ∙ parts-encode _ (done-valid c q r e) ∙ after-accepts a in
       record {
         parts = p;
+        count = ap countAt (done-container c q r e) ∙ count-encode _ (done-valid c q r e) ∙ count-accepts a;
         leases = ap (λ (x : Parts). x .leases) p;
         reported = tests-reply c q r (a .enabler) (a .tests) (a .writes) (a .cut) (a .format) (done-replies _ e);
       }

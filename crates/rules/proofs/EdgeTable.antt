@@ -1,4 +1,4 @@
--- P1 to P10 and P12 to P20: the tables hold, and the whole request of 62 bytes. Assumes nothing.
+-- P1 to P10, P12 to P20 and P30 to P34: the tables hold, and the whole request of 62 bytes. Assumes nothing.
 use mathlib.Core.Path.{_≡_, refl, ap₂, _∙_}
 use mathlib.Core.Bool.{true}
 use mathlib.Core.List.{List, [], _∷_, map}
@@ -11,8 +11,8 @@ use Rattle.octets.specs.Numbers.{numberAfter, number, numberAt, digits}
 use Rattle.octets.specs.Strings.{allZero, same, order, join}
 use Rattle.format.specs.Container.{lengthAllowed, held, recordOk, lastHeld, fieldsOk, contentsOk, wellFormed}
 use Rattle.format.specs.Layout.{countAt, usedLength, nodeOf, enablerOf, sizeOf, dataOf, extrasOf, records, leasesOf}
-use Rattle.format.specs.Layout.{ownerOf, renewalOf, cancelOf}
-use Rattle.format.specs.Parts.{extras, used, partsOf, encode, noLease, fresh, headOf, frontOf, tailOf}
+use Rattle.format.specs.Layout.{ownerOf, renewalOf, cancelOf, slackOf, movedCount}
+use Rattle.format.specs.Parts.{extras, countIn, used, partsOf, encode, noLease, fresh, headOf, frontOf, tailOf}
 use Rattle.rules.specs.Requests.{Write, testWrite, entryOffset, entryCount, entryOpcode, entrySpecimen}
 use Rattle.rules.specs.Requests.{testEntryOk, allFrom, sumFrom, testsFrom, writesFrom, testCount, writeCount}
 use Rattle.rules.specs.Requests.{cutFlag, newLength, writesAt, specimensAt, newDataAt, testWriteEnd, cutOk}
@@ -24,6 +24,7 @@ use Rattle.octets.specs.Lists.{isSome, every, anyOf, orElse, maybe}
 use Rattle.rules.specs.Writing.{padTo, writeAt, grow, placed, writesResolve, writeAll, cutTo, rewritten}
 use Rattle.rules.specs.Sizes.{sizeAll, cutSize, clip, resize}
 use Rattle.rules.specs.Leasing.{renewedBy, cancelledBy, vacant, firstOf, added, knows, present, placedIn}
+use Rattle.rules.specs.Leasing.{cancelled, trim, withLast, dropTail}
 use Rattle.rules.specs.Outcomes.{answerOf, noNode, withBytes, withLeases, after, replyTo, rows}
 use Rattle.rules.specs.Outcomes.{roomRows, requestRows, outcome, replies, afterOf, replyBytes, counted}
 use Rattle.rules.specs.Outcomes.{answerTo, answered, replyAfter, containerAfter, createOutcome}
@@ -32,6 +33,8 @@ use Rattle.octets.specs.Rows.{firstRow}
 use Rattle.rules.specs.Edges.{enabler, bytesAt, testAndWrite, given, Case, Outcome, cases, results, request62}
 use Rattle.rules.specs.Edges.{empty, nines, EdgesHold, numbers, finally, result, seen, reads, returned}
 use Rattle.rules.specs.Edges.{leased, passing, differences, touch, rewrites, touched}
+use Rattle.rules.specs.Edges.{usedLengths, ending, spared, endings, judged, shifted, judgements, leasedWith}
+use Rattle.rules.specs.Edges.{fills, filled}
 use Rattle.rules.specs.Changes.{covers, cutChange, writeChanges, changesOf}
 use Rattle.rules.specs.Stretch.{inFields, inWritten, stretchFrom, stretchTo}
 use Rattle.rules.proofs.WriteLaws.{no-gap}
@@ -83,7 +86,10 @@ record Computed : Type 0 where
   short : map seen reads ≡ returned
   fields : passing inFields (length leased) 0
       ≡ 84 ∷ 85 ∷ 86 ∷ 87 ∷ 88 ∷ 89 ∷ 90 ∷ 91 ∷ 92 ∷ 93 ∷ 94 ∷ 95 ∷ 96 ∷ 97 ∷ 98 ∷ 99 ∷ []
-  stretches : map touch rewrites ≡ touched
+  stretches : map (touch leased) rewrites ≡ touched
+  slack : map ending spared ≡ endings
+  places : map judged shifted ≡ judgements
+  stretches-in-slack : map (touch (leasedWith 573 2)) fills ≡ filled
 
 computed : Computed
 unfolding numberAfter number numberAt digits allZero same order join lengthAllowed countAt usedLength nodeOf enablerOf
@@ -96,7 +102,8 @@ unfolding numberAfter number numberAt digits allZero same order join lengthAllow
     present withBytes withLeases after replyTo firstRow rows admitRows findRows roomRows requestRows outcome
     replies afterOf replyBytes counted answerTo answered replyAfter containerAfter createOutcome createdContainer
     numbers finally result far readsFrom readCount readOk readPiece seen covers cutChange writeChanges changesOf
-    anyOf inFields inWritten stretchFrom stretchTo passing differences touch
+    anyOf inFields inWritten stretchFrom stretchTo passing differences touch slackOf movedCount countIn usedLengths
+    ending judged cancelled trim withLast dropTail
 computed = record {
   p1 = refl;
   p1-long = λ long e. rw e refl;
@@ -111,6 +118,9 @@ computed = record {
   short = refl;
   fields = refl;
   stretches = refl;
+  slack = refl;
+  places = refl;
+  stretches-in-slack = refl;
 }
 
 -- THE TABLES' CLAIM
@@ -130,4 +140,7 @@ edges = record {
   short = computed .short;
   fields = computed .fields;
   stretches = computed .stretches;
+  slack = computed .slack;
+  places = computed .places;
+  stretches-in-slack = computed .stretches-in-slack;
 }

@@ -1,5 +1,5 @@
 -- A request that is answered 0 leaves parts that obey the rules and fit. Assumes nothing.
-use mathlib.Core.Path.{_≡_, refl, _∙_}
+use mathlib.Core.Path.{_≡_, refl, ap, _∙_}
 use mathlib.Core.Bool.{Bool, true, false, not, _&&_}
 use mathlib.Core.List.{List, [], _∷_, _++_}
 use mathlib.Core.Option.{Option, none, some}
@@ -9,15 +9,17 @@ use lib.ListN.{length, take, drop, getD, set, length-append, length-drop, length
 use lib.Seq.{drop-at, drop-append-le, length-take-le}
 use lib.Dec.{leb}
 use borrow.Author.Tests.{ltb-false, leb-false}
-use Rattle.format.specs.Container.{held, lastHeld}
+use Rattle.format.specs.Container.{held, lastHeld, wellFormed}
 use Rattle.format.specs.Layout.{expiryOf, renewalOf, usedLength, fixedPlaces, leaseLimit}
-use Rattle.format.specs.Layout.{recordSize, extrasAt}
-use Rattle.format.specs.Parts.{Parts, used, extras, noLease}
+use Rattle.format.specs.Layout.{recordSize, extrasAt, countAt, extrasOf, movedCount}
+use Rattle.format.specs.Parts.{Parts, countIn, used, extras, partsOf, noLease}
 use Rattle.format.specs.Claims.{Place, Valid}
 use Rattle.octets.specs.Lists.{isSome, maybe}
 use Rattle.octets.specs.Facts.{Each}
 use Rattle.octets.proofs.ListLaws.{both, each-append, each-take, each-drop, each-set, each-at}
-use Rattle.format.proofs.RoundTrip.{no-lease}
+use Rattle.format.proofs.WellFormed.{moved-most}
+use Rattle.format.proofs.RoundTrip.{count-is, parts-count, no-lease}
+use Rattle.format.proofs.KnownLaws.{leases-extras}
 use Rattle.rules.specs.Requests.{Request, testWrite, add, renew, cancel, read}
 use Rattle.rules.specs.Leasing.{renewedBy, cancelledBy, vacant, firstOf, later, extended, trim, dropTail, added}
 use Rattle.rules.specs.Leasing.{renewed, cancelled, knows, present, placedIn}
@@ -38,19 +40,40 @@ rows-numbered p (cancel t) n = (omega arith, tt)
 rows-numbered p (read rs) n = (omega arith, (omega arith, tt))
 
 -- ---- parts with other data, and with other lease places
+pub count-with : (p : Parts) (d : List ℕ) → countIn (withBytes p d) ≡ movedCount (countIn p) (length d)
+unfolding withBytes
+count-with p d =
+    let m = moved-most (countIn p) (length d) in
+    count-is (withBytes p d) ∙ omega (arith, m .1)
+
+pub used-with : (p : Parts) (d : List ℕ) → used (withBytes p d)
+    ≡ usedLength (movedCount (countIn p) (length d)) (extras (p .leases))
+unfolding used withBytes
+used-with p d = ap (λ (o : ℕ). usedLength o (extras (p .leases))) (count-with p d)
+
+pub used-rewritten : (c d : List ℕ) → wellFormed c ≡ true → used (withBytes (partsOf c) d)
+    ≡ usedLength (movedCount (countAt c) (length d)) (extrasOf c)
+unfolding partsOf
+used-rewritten c d w = used-with (partsOf c) d ∙ rw (parts-count c w, leases-extras c)
+
+-- parts that have buffer length, node id, enabler and leases of valid ones, and fit, are valid
+same-kept : (p o : Parts) → o .room ≡ p .room → o .node ≡ p .node → o .enabler ≡ p .enabler → o .leases ≡ p .leases
+    → Valid p → used o ≤ p .room → Valid o
+same-kept p o r n e l v f = record {
+  at-least = rw r (v .at-least);
+  at-most = rw r (v .at-most);
+  node-size = rw n (v .node-size);
+  enabler-size = rw e (v .enabler-size);
+  four = rw l (v .four);
+  few = rw l (v .few);
+  places = rw l (v .places);
+  last = rw l (v .last);
+  fits = omega (arith, f, r);
+}
+
 pub bytes-kept : (p : Parts) (d : List ℕ) → Valid p → used (withBytes p d) ≤ p .room → Valid (withBytes p d)
 unfolding withBytes
-bytes-kept p d v f = record {
-  at-least = v .at-least;
-  at-most = v .at-most;
-  node-size = v .node-size;
-  enabler-size = v .enabler-size;
-  four = v .four;
-  few = v .few;
-  places = v .places;
-  last = v .last;
-  fits = f;
-}
+bytes-kept p d v f = same-kept p (withBytes p d) refl refl refl refl v f
 
 -- lease places in order
 pub record Ordered (ls : List (List ℕ)) : Type 0 where
@@ -80,8 +103,8 @@ leases-kept p ls v o f = record {
 -- no more places use no more room
 pub used-fewer : (p : Parts) (ls : List (List ℕ)) → Valid p → length ls ≤ length (p .leases)
     → used (withLeases p ls) ≤ p .room
-unfolding withLeases used extras usedLength
-used-fewer p ls v h = let f : extrasAt (length (p .bytes)) + recordSize *
+unfolding withLeases used countIn extras usedLength
+used-fewer p ls v h = let f : extrasAt (countIn p) + recordSize *
     (length (p .leases) - fixedPlaces) ≤ p .room = v .fits in omega arith
 
 -- a lease record in a place
@@ -217,11 +240,11 @@ Proper (read rs) = Unit {0}
 
 pub after-valid : (p : Parts) (r : Request) (n : ℕ) → Valid p → Proper r → firstRow (rows p r n ++ roomRows p r) ≡ 0
     → Valid (after p r)
-unfolding after rows admitRows findRows roomRows firstRow
+unfolding after withBytes rows admitRows findRows roomRows firstRow
 after-valid p (testWrite k ts ws cut) n v q e =
     let r : Request = testWrite k ts ws cut in
     let z = clear 11 _ [] (omega arith) (rows-clear (rows p r n) (roomRows p r) (rows-numbered p r n) e .1) in
-    bytes-kept p _ v (ltb-false _ _ (z .0))
+    same-kept p (after p r) refl refl refl refl v (ltb-false _ _ (z .0))
 after-valid p (add r) n v q e =
     let y = clear 10 _ (roomRows p (add r)) (omega arith) e in
     let z = clear 11 _ [] (omega arith) (y .1) in

@@ -13,4 +13,5 @@ pub mod Demand1
 pub mod Demand2
 pub mod ShortReads
 pub mod Stretch
+pub mod Slack
 pub mod Secrets

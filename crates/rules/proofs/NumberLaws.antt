@@ -16,7 +16,7 @@ use Rattle.rules.specs.Claims.{numbersFor}
 use Rattle.rules.proofs.RequestLaws.{Kinds, broken, tests, adds, renews, cancels, reads, kinds}
 
 -- the firstRow number of a table is 0 or that of a row
-firstRow-among : (ns : List ℕ) (rs : List Row) → Among 0 ns → Each (λ r. Among (r .number) ns) rs
+pub firstRow-among : (ns : List ℕ) (rs : List Row) → Among 0 ns → Each (λ r. Among (r .number) ns) rs
     → Among (firstRow rs) ns
 unfolding firstRow
 firstRow-among ns [] z h = z

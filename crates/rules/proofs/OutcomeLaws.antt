@@ -1,12 +1,13 @@
 -- The outcome on a well-formed container, with and without the room, and the parts afterwards. Assumes nothing.
-use mathlib.Core.Path.{_≡_, refl, _∙_}
+use mathlib.Core.Path.{_≡_, refl, sym, _∙_}
 use mathlib.Core.Bool.{Bool, true, false, cond, true≢false}
 use mathlib.Core.List.{List, [], _∷_, _++_}
 use mathlib.Core.Option.{Option, none, some}
 use Prim.Native.Nat.{ℕ}
 use lib.Dec.{eqb, ltb}
 use lib.ListN.{length}
-use borrow.Author.Tests.{eqb-true}
+use borrow.Author.Tests.{eqb-true, ne-eqb}
+use Rattle.octets.specs.Moves.{put}
 use Rattle.format.specs.Container.{lengthAllowed, wellFormed}
 use Rattle.format.specs.Parts.{Parts, used, partsOf, encode}
 use Rattle.format.specs.Claims.{Valid}
@@ -14,7 +15,8 @@ use Rattle.octets.proofs.ListLaws.{both}
 use Rattle.format.proofs.RoundTrip.{encode-formed, parts-encode}
 use Rattle.rules.specs.Requests.{Request, testWrite, add, renew, cancel, read, requestOf}
 use Rattle.rules.specs.Outcomes.{withBytes, withLeases, after, afterOf, rows, roomRows, requestRows, outcome}
-use Rattle.rules.specs.Outcomes.{answerTo, answered}
+use Rattle.rules.specs.Outcomes.{answerTo, answered, replies, replyBytes, replyAfter}
+use Rattle.rules.specs.Claims.{SameReply}
 use Rattle.octets.specs.Lists.{maybe}
 use Rattle.octets.specs.Rows.{Row, row, firstRow}
 use Rattle.rules.proofs.Kept.{after-valid}
@@ -98,3 +100,32 @@ pub outcome-early : (p : Parts) (r : Option Request) (n : ℕ) → eqb (firstRow
 unfolding requestRows early earlyRows
 outcome-early p none n e = refl
 outcome-early p (some r) n e = room-last (rows p r n) p r e
+
+-- where 'no room' is not the answer, the room does not matter
+pub roomy : (c q r : List ℕ) → wellFormed c ≡ true → (answered c q r .number ≡ 11 → ⊥) →
+    outcome c q (length r) ≡ early (partsOf c) (requestOf q) (length r)
+roomy c q r w h =
+    let f : outcome c q (length r) ≡ firstRow (requestRows (partsOf c) (requestOf q) (length r)) =
+    outcome-formed c q (length r) w in
+    let g = ne-eqb _ 11 (λ e. h (answered-number c q r ∙ f ∙ e)) in
+    f ∙ outcome-early (partsOf c) (requestOf q) (length r) g
+
+-- ---- what is answered and replied with outcome n
+reply-by : (c q r : List ℕ) (n : ℕ) → outcome c q (length r) ≡ n →
+    replyAfter c q r ≡ cond (replies n) (put 0 (replyBytes (partsOf c) (requestOf q)) r) r
+unfolding replyAfter
+reply-by c q r n e = rw e
+
+answer-by : (c q r : List ℕ) (n : ℕ) → outcome c q (length r) ≡ n →
+    answered c q r ≡ answerTo n (partsOf c) (requestOf q)
+unfolding answered
+answer-by c q r n e = rw e
+
+-- with the same number, what tells two containers apart is what is counted and replied
+pub same-reply : (b c q r : List ℕ) (n : ℕ) → outcome b q (length r) ≡ n → outcome c q (length r) ≡ n →
+    answerTo n (partsOf b) (requestOf q) ≡ answerTo n (partsOf c) (requestOf q) →
+    replyBytes (partsOf b) (requestOf q) ≡ replyBytes (partsOf c) (requestOf q) → SameReply b c q r
+same-reply b c q r n eb ec ea er = record {
+  answer = answer-by b q r n eb ∙ ea ∙ sym (answer-by c q r n ec);
+  reply = reply-by b q r n eb ∙ rw er (sym (reply-by c q r n ec));
+}

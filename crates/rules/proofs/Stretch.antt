@@ -1,34 +1,45 @@
--- A test-and-write that is done changes no byte outside the two fields, the written bytes and the stretch, and where
--- the size stays none outside the written bytes. Assumes nothing.
+-- A test-and-write that is done changes no byte outside the two fields, the written bytes and the stretch; where the
+-- count stays none outside the size field, the written bytes and what a cut frees; and where the size stays none
+-- outside the written bytes. Assumes nothing.
 use mathlib.Core.Path.{_≡_, refl, sym, ap, _∙_}
-use mathlib.Core.Bool.{Bool, true, false, _&&_}
-use mathlib.Core.List.{List, _++_}
+use mathlib.Core.Bool.{Bool, true, false, _&&_, false≢true}
+use mathlib.Core.List.{List}
 use mathlib.Core.Logic.{_⊎_, inl, inr}
 use Prim.Native.Nat.{ℕ, _-_, _≤_, _<_}
 use native.Mathlib.Omega.{arith}
-use lib.ListN.{length, getD, replicate, List·getD-append}
+use lib.ListN.{length, getD}
 use lib.Dec.{leb, ltb}
 use borrow.Author.Tests.{ltb-true, ltb-false, leb-false, le-leb, lt-ltb}
 use Rattle.octets.specs.Lists.{anyOf}
 use Rattle.octets.specs.Facts.{Octets}
-use Rattle.octets.proofs.ListLaws.{at-app-right}
-use Rattle.format.specs.Layout.{sizeAt, leasesAt, dataAt, nodeOf, enablerOf, sizeOf, dataOf, dataEnd}
+use Rattle.octets.proofs.ListLaws.{at-past}
+use Rattle.format.specs.Layout.{sizeAt, offsetAt, leasesAt, dataAt, nodeOf, enablerOf, sizeOf, dataOf, dataEnd, countAt}
+use Rattle.format.specs.Layout.{movedCount}
 use Rattle.format.specs.Container.{wellFormed}
-use Rattle.format.specs.Parts.{Parts, used, partsOf, frontOf, headOf, tailOf, encode}
-use Rattle.format.proofs.WellFormed.{data-length}
-use Rattle.format.proofs.RoundTrip.{parts-valid, encode-parts}
-use Rattle.format.proofs.ViewLaws.{length-head}
-use Rattle.format.proofs.ByteLaws.{at-data, at-unused, same-front, same-four}
+use Rattle.format.specs.Parts.{Parts, countIn, partsOf, encode}
+use Rattle.format.specs.Claims.{Valid}
+use Rattle.format.proofs.WellFormed.{formed-facts, moved-not, data-length}
+use Rattle.format.proofs.RoundTrip.{parts-count, parts-valid, encode-parts}
+use Rattle.format.proofs.ByteLaws.{at-data, at-unused, same-front, same-size, same-offset, same-four}
+use Rattle.format.proofs.ByteLaws.{same-behind}
 use Rattle.rules.specs.Writing.{placed, rewritten}
 use Rattle.rules.specs.Changes.{within, writesAt, changesOf, cutChange, writeChanges}
 use Rattle.rules.specs.Outcomes.{withBytes, containerAfter}
 use Rattle.rules.specs.Claims.{Accepts, Writes}
 use Rattle.rules.specs.Stretch.{inFields, inWritten, stretchFrom, stretchTo, OnlyTheStretch}
 use Rattle.rules.proofs.ChangeLaws.{at-unwritten}
+use Rattle.rules.proofs.Kept.{count-with, used-rewritten, bytes-kept}
 use Rattle.rules.proofs.Demand1.{demand-1}
 use Rattle.rules.proofs.Demand2.{demand-2, done-encoded}
 
 -- ---- positions
+split : (a i : ℕ) → (i < a) ⊎ (a ≤ i)
+split a i = go (ltb i a) refl
+  where
+    go : (t : Bool) → ltb i a ≡ t → (i < a) ⊎ (a ≤ i)
+    go true e = inl (ltb-true i a e)
+    go false e = inr (ltb-false i a e)
+
 outside : (a b i : ℕ) → within a b i ≡ false → (i < a) ⊎ (b ≤ i)
 outside a b i = go (leb a i) refl
   where
@@ -36,24 +47,8 @@ outside a b i = go (leb a i) refl
     go true e h = inr (ltb-false i b h)
     go false e h = inl (leb-false a i e)
 
--- lists that agree before their seam and behind it
-at-append : (a x b y : List ℕ) (i : ℕ) → length a ≡ length x → (i < length a → getD a i 0 ≡ getD x i 0) →
-    (length a ≤ i → getD b (i - length a) 0 ≡ getD y (i - length a) 0) → getD (a ++ b) i 0 ≡ getD (x ++ y) i 0
-at-append a x b y i l f g = go (ltb i (length a)) refl
-  where
-    go : (t : Bool) → ltb i (length a) ≡ t → getD (a ++ b) i 0 ≡ getD (x ++ y) i 0
-    go true e =
-        let h : i < length a = ltb-true i (length a) e in
-        List·getD-append a b 0 i h ∙ f h ∙ sym (List·getD-append x y 0 i (omega arith))
-    go false e =
-        let h : length a ≤ i = ltb-false i (length a) e in
-        at-app-right a b i h ∙ g h ∙ rw l (sym (at-app-right x y i (omega arith)))
-
--- other data of the same size: head, tail and zeros are the same bytes
-encode-sized : (p : Parts) (d : List ℕ) → length d ≡ length (p .bytes) →
-    encode (withBytes p d) ≡ headOf p ++ (d ++ (tailOf p ++ replicate (p .room - used p) 0))
-unfolding encode withBytes headOf frontOf tailOf used
-encode-sized p d l = rw l
+neither : (a b i : ℕ) → within a b i ≡ false → a ≤ i → i < b → ⊥
+neither a b i e h k = false≢true (sym e ∙ rw (le-leb a i h, lt-ltb i b k) refl)
 
 module _ (c q r : List ℕ) (a : Accepts c q (length r)) where
   abbrev e : List ℕ
@@ -109,22 +104,81 @@ module _ (c q r : List ℕ) (a : Accepts c q (length r)) where
       go (inr h) false d (inr x) =
           at-unused e i formed (omega arith) ∙ sym (at-unused c i (a .formed) (omega arith))
 
+  count-new : countAt e ≡ movedCount (countAt c) (length new)
+  count-new = does .count
+
+  -- with the count where it was, in a container made of bytes: where the size field is passed over or says the same,
+  -- and no byte that a cut frees is meant
+  count-kept : countAt e ≡ countAt c → Octets c → (i : ℕ) → (sizeAt ≤ i → i < offsetAt → length new ≡ length (dataOf c))
+      → inWritten c q e i ≡ false → (dataEnd e ≤ i → dataEnd c ≤ i) → getD e i 0 ≡ getD c i 0
+  unfolding partsOf withBytes
+  count-kept k o i f u x =
+      ap (λ (b : List ℕ). getD b i 0) is
+      ∙ go (split sizeAt i) (split offsetAt i) (split leasesAt i) (split dataAt i)
+      ∙ ap (λ (b : List ℕ). getD b i 0) was
+    where
+      p : Parts
+      p = partsOf c
+
+      p' : Parts
+      p' = withBytes p new
+
+      v : Valid p
+      v = parts-valid c (a .formed)
+
+      v' : Valid p'
+      v' = bytes-kept p new v (rw (used-rewritten c new (a .formed)) (a .result-fits))
+
+      is : e ≡ encode p'
+      is = done-encoded c q r a
+
+      was : encode p ≡ c
+      was = encode-parts c (a .formed) o
+
+      n : countIn p' ≡ countIn p
+      n = count-with p new ∙ rw (parts-count c (a .formed)) (sym count-new ∙ k)
+
+      lost : dataAt ≤ i → getD new (i - dataAt) 0 ≡ getD (dataOf c) (i - dataAt) 0
+      lost h = by (split (dataEnd e) i)
+        where
+          by : (i < dataEnd e) ⊎ (dataEnd e ≤ i) → getD new (i - dataAt) 0 ≡ getD (dataOf c) (i - dataAt) 0
+          by (inl g) = data-kept i h g u
+          by (inr g) =
+              at-past new (i - dataAt) (omega (arith, size-new))
+              ∙ sym (at-past (dataOf c) (i - dataAt) (omega (arith, x g, data-length c (a .formed))))
+
+      go : (i < sizeAt) ⊎ (sizeAt ≤ i) → (i < offsetAt) ⊎ (offsetAt ≤ i) → (i < leasesAt) ⊎ (leasesAt ≤ i) →
+          (i < dataAt) ⊎ (dataAt ≤ i) → getD (encode p') i 0 ≡ getD (encode p) i 0
+      go (inl h) y z w =
+          sym (ap (λ (b : List ℕ). getD b i 0) is) ∙ same-front e c formed (a .formed) node-kept enabler-kept i h
+          ∙ sym (ap (λ (b : List ℕ). getD b i 0) was)
+      go (inr h) (inl y) z w = same-size p' p v' v i (f h y) h y
+      go (inr h) (inr y) (inl z) w = same-offset p' p v' v i n y z
+      go (inr h) (inr y) (inr z) (inl w) =
+          sym (ap (λ (b : List ℕ). getD b i 0) is) ∙ same-four e c (does .leases) i z w
+          ∙ sym (ap (λ (b : List ℕ). getD b i 0) was)
+      go (inr h) (inr y) (inr z) (inr w) = same-behind p' p v' v i n refl refl w (lost w)
+
   still-kept : sizeOf e ≡ sizeOf c → Octets c → (i : ℕ) → inWritten c q e i ≡ false → getD e i 0 ≡ getD c i 0
-  unfolding encode partsOf
   still-kept s o i u =
-      let p : Parts = partsOf c in
-      let t : List ℕ = tailOf p ++ replicate (p .room - used p) 0 in
-      let h : length (headOf p) ≡ dataAt = length-head p (parts-valid c (a .formed)) in
       let l : length new ≡ length (dataOf c) = sym size-new ∙ s ∙ sym (data-length c (a .formed)) in
-      ap (λ (b : List ℕ). getD b i 0) (done-encoded c q r a ∙ encode-sized p new l)
-      ∙ at-append (headOf p) (headOf p) (new ++ t) (dataOf c ++ t) i refl (λ g. refl) (λ g. rw h
-      (at-append new (dataOf c) t t (i - dataAt) l (λ k. data-kept i (omega arith) (omega (arith, size-new)) u)
-      (λ k. refl)))
-      ∙ ap (λ (b : List ℕ). getD b i 0) (encode-parts c (a .formed) o)
+      let b = formed-facts c (a .formed) .fields .behind in
+      let k : countAt e ≡ countAt c = count-new ∙ moved-not (countAt c) (length new) (omega (arith, size-new)) in
+      count-kept k o i (λ g h. l) u (λ g. omega arith)
+
+  in-place-kept : countAt e ≡ countAt c → Octets c → (i : ℕ) → within sizeAt offsetAt i ≡ false →
+      inWritten c q e i ≡ false → within (dataEnd e) (dataEnd c) i ≡ false → getD e i 0 ≡ getD c i 0
+  in-place-kept k o i f u x =
+      count-kept k o i (λ g h. absurd (neither sizeAt offsetAt i f g h)) u (λ g. beyond (outside _ _ i x) g)
+    where
+      beyond : (i < dataEnd e) ⊎ (dataEnd c ≤ i) → dataEnd e ≤ i → dataEnd c ≤ i
+      beyond (inl h) g = omega arith
+      beyond (inr h) g = h
 
 -- ONLY THE STRETCH
 pub only-the-stretch : (c q r : List ℕ) → OnlyTheStretch c q r
 only-the-stretch c q r = record {
   elsewhere = λ k z. outside-kept c q r (demand-2 c q r .exactly k .0 z);
   still = λ k z. still-kept c q r (demand-2 c q r .exactly k .0 z);
+  in-place = λ k z. in-place-kept c q r (demand-2 c q r .exactly k .0 z);
 }

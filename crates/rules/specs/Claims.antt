@@ -12,9 +12,10 @@ use lib.IntN.{ℤ, pos, negsuc}
 use Rattle.octets.specs.Strings.{same}
 use Rattle.octets.specs.Moves.{put}
 use Rattle.format.specs.Container.{wellFormed}
-use Rattle.format.specs.Layout.{nodeOf, enablerOf, dataOf, leasesOf, secretSize}
+use Rattle.format.specs.Layout.{nodeOf, enablerOf, dataOf, countAt, extrasOf, leasesOf, secretSize, usedLength}
+use Rattle.format.specs.Layout.{movedCount}
 use Rattle.octets.specs.Facts.{Octets, Each, Among}
-use Rattle.format.specs.Parts.{used, partsOf}
+use Rattle.format.specs.Parts.{partsOf}
 use Rattle.rules.specs.Requests.{Test, Read, Write, testWrite, read, requestOf, kindOf, secretAt}
 use Rattle.rules.specs.Testing.{testPiece, readPiece, holds, replyOf}
 use Rattle.rules.specs.Writing.{rewritten}
@@ -112,13 +113,17 @@ pub record Accepts (c q : List ℕ) (n : ℕ) : Type 0 where
   pub reply-fits : length (replyOf (map (testPiece (dataOf c)) tests)) ≤ n
   -- every test holds
   pub all-hold : Each (λ t. holds (dataOf c) t ≡ true) tests
-  -- the result fits
-  pub result-fits : used (withBytes (partsOf c) (rewritten writes cut (dataOf c))) ≤ length c
+  -- the result fits, with the count where it then stands
+  pub result-fits : usedLength (movedCount (countAt c) (length (rewritten writes cut (dataOf c)))) (extrasOf c)
+      ≤ length c
 
 -- What is then done (D2).
 pub record Writes (c q r : List ℕ) (a : Accepts c q (length r)) : Type 0 where
   -- the named writes in order, zeros in gaps, and the cut; all else is kept
   pub parts : partsOf (containerAfter c q r) ≡ withBytes (partsOf c) (rewritten (a .writes) (a .cut) (dataOf c))
+  -- the count stands at the larger of its old place and the data's new end
+  pub count : countAt (containerAfter c q r)
+      ≡ movedCount (countAt c) (length (rewritten (a .writes) (a .cut) (dataOf c)))
   -- every lease is kept
   pub leases : leasesOf (containerAfter c q r) ≡ leasesOf c
   -- the reply holds the pieces of the data as it was before any write
@@ -131,7 +136,7 @@ pub record Demand2 (c q r : List ℕ) : Type 0 where
   -- and then does what they name
   pub writes : (a : Accepts c q (length r)) → Writes c q r a
 
--- Two well-formed containers that differ at most in write enabler and leases.
+-- Two well-formed containers that differ at most in write enabler, leases, slack and buffer length.
 pub record SamePublic (b c : List ℕ) : Type 0 where
   pub formed-b : wellFormed b ≡ true
   pub formed-c : wellFormed c ≡ true

@@ -1,17 +1,18 @@
--- Numbers at the edges (docs/RULES.md, P1 to P10, P12 to P20), as tables: what create and then a few requests give,
--- what reads return, and which bytes a test-and-write changes.
+-- Numbers at the edges (docs/RULES.md, P1 to P10, P12 to P20, P30 to P34), as tables: what create and then a few
+-- requests give, what reads return, which bytes a test-and-write changes, and what slack allows.
 use Prim.Native.Nat.{ℕ, zero, suc}
 use mathlib.Core.Path.{_≡_}
 use mathlib.Core.Bool.{Bool, cond}
 use mathlib.Core.List.{List, [], _∷_, _++_, map}
-use lib.ListN.{length, replicate}
+use lib.ListN.{length, take, replicate}
 use lib.Dec.{eqb}
 use Rattle.octets.specs.Numbers.{digits}
 use Rattle.octets.specs.Strings.{join}
-use Rattle.format.specs.Layout.{dataOf, usedEnd}
-use Rattle.format.specs.Parts.{encode, fresh}
+use Rattle.octets.specs.Moves.{put}
+use Rattle.format.specs.Layout.{sizeWidth, sizeAt, offsetAt, fixedPlaces, dataOf, slackOf, usedEnd}
+use Rattle.format.specs.Parts.{encode, fresh, noLease}
 use Rattle.rules.specs.Outcomes.{outcome, answerOf, noNode, answered, containerAfter, replyAfter, createOutcome}
-use Rattle.rules.specs.Outcomes.{createdContainer, withBytes, withLeases}
+use Rattle.rules.specs.Outcomes.{createdContainer}
 use Rattle.rules.specs.Stretch.{inFields, inWritten, stretchFrom, stretchTo}
 
 -- The enabler of every case, EE 32 times.
@@ -90,26 +91,31 @@ unfoldable pub finally : List (List ℕ) → List ℕ → List ℕ
 finally [] c = c
 finally (q ∷ qs) c = finally qs (containerAfter c q space)
 
--- What a case gives: create's number, the requests' numbers, the data and the used length in the end; none where
--- create refused.
+-- The used lengths before the requests and after each of them.
+unfoldable pub usedLengths : List (List ℕ) → List ℕ → List ℕ
+usedLengths [] c = usedEnd c ∷ []
+usedLengths (q ∷ qs) c = usedEnd c ∷ usedLengths qs (containerAfter c q space)
+
+-- What a case gives: create's number, the requests' numbers, the data in the end, and the used lengths after create and
+-- each request; none where create refused.
 pub record Outcome : Type 0 where
   pub created : ℕ
   pub answers : List ℕ
   pub bytes : List ℕ
-  pub used : ℕ
+  pub used : List ℕ
 
 -- A case carried out.
 unfoldable pub result : Case → Outcome
 result x =
     let n : ℕ = createOutcome (x .buffer) node enabler in
     let c : List ℕ = createdContainer (x .buffer) node enabler in
-    let e : List ℕ = finally (x .requests) c in
+    let qs : List (List ℕ) = x .requests in
     cond (eqb n 0)
-    (record { created = n; answers = numbers (x .requests) c; bytes = dataOf e; used = usedEnd e })
-    (record { created = n; answers = []; bytes = []; used = 0 })
+    (record { created = n; answers = numbers qs c; bytes = dataOf (finally qs c); used = usedLengths qs c })
+    (record { created = n; answers = []; bytes = []; used = [] })
 
--- A row of results: create's number, the answers, the data, the used length.
-abbrev pub gives : ℕ → List ℕ → List ℕ → ℕ → Outcome
+-- A row of results: create's number, the answers, the data, the used lengths.
+abbrev pub gives : ℕ → List ℕ → List ℕ → List ℕ → Outcome
 gives n ns d u = record { created = n; answers = ns; bytes = d; used = u }
 
 -- The table: P1 (three cases), P2 (three), P3, P4, P5 (two), P6 (two), P7 (two), P8 (two), P9, P10. `long` stands for
@@ -139,24 +145,24 @@ cases long =
 -- What each case gives, in the same order.
 abbrev pub results : List Outcome
 results =
-    gives 0 [] [] 472
-    ∷ gives 1 [] [] 0
-    ∷ gives 1 [] [] 0
-    ∷ gives 0 (11 ∷ []) [] 472
-    ∷ gives 0 (0 ∷ []) (1 ∷ []) 473
-    ∷ gives 0 (11 ∷ []) [] 472
-    ∷ gives 0 (0 ∷ []) (0 ∷ 0 ∷ 0 ∷ 65 ∷ 66 ∷ []) 477
-    ∷ gives 0 (0 ∷ 0 ∷ 0 ∷ []) (0 ∷ 0 ∷ 0 ∷ 0 ∷ 90 ∷ []) 477
-    ∷ gives 0 (0 ∷ []) (65 ∷ 65 ∷ 66 ∷ 66 ∷ []) 476
-    ∷ gives 0 (0 ∷ []) (65 ∷ 65 ∷ 65 ∷ 65 ∷ []) 476
-    ∷ gives 0 (0 ∷ []) (replicate 10 0) 482
-    ∷ gives 0 (11 ∷ []) [] 472
-    ∷ gives 0 (0 ∷ 0 ∷ 0 ∷ 0 ∷ 11 ∷ []) [] 472
-    ∷ gives 0 (0 ∷ 0 ∷ 0 ∷ 0 ∷ 0 ∷ []) [] 564
-    ∷ gives 0 (0 ∷ 0 ∷ []) (65 ∷ []) 473
-    ∷ gives 0 (0 ∷ []) [] 472
-    ∷ gives 0 (8 ∷ []) [] 472
-    ∷ gives 0 (9 ∷ []) [] 472
+    gives 0 [] [] (472 ∷ [])
+    ∷ gives 1 [] [] []
+    ∷ gives 1 [] [] []
+    ∷ gives 0 (11 ∷ []) [] (472 ∷ 472 ∷ [])
+    ∷ gives 0 (0 ∷ []) (1 ∷ []) (472 ∷ 473 ∷ [])
+    ∷ gives 0 (11 ∷ []) [] (472 ∷ 472 ∷ [])
+    ∷ gives 0 (0 ∷ []) (0 ∷ 0 ∷ 0 ∷ 65 ∷ 66 ∷ []) (472 ∷ 477 ∷ [])
+    ∷ gives 0 (0 ∷ 0 ∷ 0 ∷ []) (0 ∷ 0 ∷ 0 ∷ 0 ∷ 90 ∷ []) (472 ∷ 477 ∷ 477 ∷ 477 ∷ [])
+    ∷ gives 0 (0 ∷ []) (65 ∷ 65 ∷ 66 ∷ 66 ∷ []) (472 ∷ 476 ∷ [])
+    ∷ gives 0 (0 ∷ []) (65 ∷ 65 ∷ 65 ∷ 65 ∷ []) (472 ∷ 476 ∷ [])
+    ∷ gives 0 (0 ∷ []) (replicate 10 0) (472 ∷ 482 ∷ [])
+    ∷ gives 0 (11 ∷ []) [] (472 ∷ 472 ∷ [])
+    ∷ gives 0 (0 ∷ 0 ∷ 0 ∷ 0 ∷ 11 ∷ []) [] (replicate 6 472)
+    ∷ gives 0 (0 ∷ 0 ∷ 0 ∷ 0 ∷ 0 ∷ []) [] (replicate 5 472 ++ (564 ∷ []))
+    ∷ gives 0 (0 ∷ 0 ∷ []) (65 ∷ []) (472 ∷ 473 ∷ 473 ∷ [])
+    ∷ gives 0 (0 ∷ []) [] (472 ∷ 472 ∷ [])
+    ∷ gives 0 (8 ∷ []) [] (472 ∷ 472 ∷ [])
+    ∷ gives 0 (9 ∷ []) [] (472 ∷ 472 ∷ [])
     ∷ []
 
 -- The whole request of 62 bytes, enabler EE 32 times (P12).
@@ -183,9 +189,21 @@ readEntry at n = digits 4 at ++ digits 4 n
 abbrev pub reading : List (List ℕ) → List ℕ
 reading es = (5 ∷ length es ∷ 0 ∷ 0 ∷ []) ++ join es
 
--- A container of 500 bytes with ABCDE as data.
+-- A container of n bytes with d as data, k bytes of slack and lease places ls.
+abbrev pub slackened : ℕ → List ℕ → ℕ → List (List ℕ) → List ℕ
+slackened n d k ls =
+    encode (record { room = n; node = node; enabler = enabler; bytes = d; slack = k; leases = ls })
+
+-- The same with no lease.
+abbrev pub spare : ℕ → List ℕ → ℕ → List ℕ
+spare n d k = slackened n d k (replicate fixedPlaces noLease)
+
+-- ABCDE, and a container of 500 bytes with it as data.
+abbrev pub letters : List ℕ
+letters = 65 ∷ 66 ∷ 67 ∷ 68 ∷ 69 ∷ []
+
 abbrev pub lettered : List ℕ
-lettered = encode (withBytes (fresh 500 node enabler) (65 ∷ 66 ∷ 67 ∷ 68 ∷ 69 ∷ []))
+lettered = spare 500 letters 0
 
 -- A read or a test on it, beside a reply space of so many bytes 9.
 pub record Look : Type 0 where
@@ -260,10 +278,13 @@ returned =
     ∷ shows 4 0 []
     ∷ []
 
+-- ABCDE and five leases with k bytes of slack, in n bytes.
+abbrev pub leasedWith : ℕ → ℕ → List ℕ
+leasedWith n k = slackened n letters k (map leaseOf (1 ∷ 2 ∷ 3 ∷ 4 ∷ 5 ∷ []))
+
 -- A container of 571 bytes with ABCDE as data and five leases, one of them extra: its used length is 569.
 abbrev pub leased : List ℕ
-leased = encode (withLeases (withBytes (fresh 571 node enabler) (65 ∷ 66 ∷ 67 ∷ 68 ∷ 69 ∷ []))
-    (map leaseOf (1 ∷ 2 ∷ 3 ∷ 4 ∷ 5 ∷ [])))
+leased = leasedWith 571 0
 
 -- The positions from i on, n of them, that pass a test; and those from i on at which two buffers differ.
 unfoldable pub passing : (ℕ → Bool) → ℕ → ℕ → List ℕ
@@ -276,7 +297,7 @@ differences i (x ∷ xs) [] = []
 differences i (x ∷ xs) (y ∷ ys) =
     cond (eqb x y) (differences (suc i) xs ys) (i ∷ differences (suc i) xs ys)
 
--- What a request on that container touches: its number, the stretch, the positions of the buffer that count as written,
+-- What a request on a container touches: its number, the stretch, the positions of the buffer that count as written,
 -- and those at which it differs afterwards.
 pub record Touch : Type 0 where
   pub number : ℕ
@@ -285,16 +306,16 @@ pub record Touch : Type 0 where
   pub written : List ℕ
   pub changed : List ℕ
 
--- A request carried out on it.
-unfoldable pub touch : List ℕ → Touch
-touch q =
-    let e : List ℕ = containerAfter leased q space in
+-- A request carried out.
+unfoldable pub touch : List ℕ → List ℕ → Touch
+touch c q =
+    let e : List ℕ = containerAfter c q space in
     record {
-      number = answered leased q space .number;
-      from = stretchFrom leased e;
-      to = stretchTo leased e;
-      written = passing (inWritten leased q e) (length leased) 0;
-      changed = differences 0 leased e;
+      number = answered c q space .number;
+      from = stretchFrom c e;
+      to = stretchTo c e;
+      written = passing (inWritten c q e) (length c) 0;
+      changed = differences 0 c e;
     }
 
 -- A row of the table: number, stretch, written, changed.
@@ -337,15 +358,151 @@ touched =
     (91 ∷ 99 ∷ 474 ∷ 476 ∷ 478 ∷ 480 ∷ 482 ∷ 484 ∷ 485 ∷ 486 ∷ 549 ∷ 550 ∷ 569 ∷ 570 ∷ [])
     ∷ touches 0 473 571 (473 ∷ 474 ∷ [])
     (91 ∷ 99 ∷ 473 ∷ 474 ∷ 476 ∷ 478 ∷ 480 ∷ 482 ∷ 484 ∷ 485 ∷ 486 ∷ 549 ∷ 550 ∷ 569 ∷ 570 ∷ [])
-    ∷ touches 0 472 569 [] (91 ∷ 99 ∷ 472 ∷ 475 ∷ 476 ∷ 479 ∷ 480 ∷ 483 ∷ 484 ∷ 548 ∷ 568 ∷ [])
-    ∷ touches 0 468 569 []
-    (91 ∷ 99 ∷ 468 ∷ 469 ∷ 470 ∷ 471 ∷ 472 ∷ 475 ∷ 476 ∷ 479 ∷ 481 ∷ 482 ∷ 483 ∷ 484 ∷ 544 ∷ 545 ∷ 546 ∷ 547 ∷
-    548 ∷ 564 ∷ 565 ∷ 566 ∷ 567 ∷ 568 ∷ [])
+    ∷ touches 0 472 569 [] (91 ∷ 472 ∷ [])
+    ∷ touches 0 468 569 [] (91 ∷ 468 ∷ 469 ∷ 470 ∷ 471 ∷ 472 ∷ [])
     ∷ touches 0 473 569 [] []
-    ∷ touches 0 472 569 (470 ∷ 471 ∷ [])
-    (91 ∷ 99 ∷ 470 ∷ 471 ∷ 472 ∷ 475 ∷ 476 ∷ 479 ∷ 480 ∷ 483 ∷ 484 ∷ 548 ∷ 568 ∷ [])
+    ∷ touches 0 472 569 (470 ∷ 471 ∷ []) (91 ∷ 470 ∷ 471 ∷ 472 ∷ [])
     ∷ touches 0 473 569 [] []
     ∷ touches 11 473 569 [] []
+    ∷ []
+
+-- ABCDE with 8 bytes of slack, in so many bytes: the data ends at 473, the count stands at 481, the used bytes end at
+-- 485.
+abbrev pub roomy : ℕ → List ℕ
+roomy n = spare n letters 8
+
+-- A cancel of the lease of owner k, as bytes.
+abbrev pub cancelLease : ℕ → List ℕ
+cancelLease k = 4 ∷ replicate 32 k
+
+-- Requests one after the other on a container, and what they end in: the answers, the data and the slack in the end,
+-- and the used lengths before them and after each.
+pub record Start : Type 0 where
+  pub container : List ℕ
+  pub requests : List (List ℕ)
+
+pub record Ending : Type 0 where
+  pub answers : List ℕ
+  pub bytes : List ℕ
+  pub slack : ℕ
+  pub used : List ℕ
+
+unfoldable pub ending : Start → Ending
+ending x =
+    let e : List ℕ = finally (x .requests) (x .container) in
+    record {
+      answers = numbers (x .requests) (x .container);
+      bytes = dataOf e;
+      slack = slackOf e;
+      used = usedLengths (x .requests) (x .container);
+    }
+
+-- Short names: a case, and a row of what it ends in.
+abbrev pub starting : List ℕ → List (List ℕ) → Start
+starting c qs = record { container = c; requests = qs }
+
+abbrev pub ends : List ℕ → List ℕ → ℕ → List ℕ → Ending
+ends ns d k us = record { answers = ns; bytes = d; slack = k; used = us }
+
+-- The table of slack: P30 (a write into the slack; into it with a gap; exactly to its end; across its end, with no room
+-- and with room; past its end), P31 (a cut and a write again; a cut to the size and a request that asks for nothing; a
+-- write past the slack and a cut inside it, so that a size past the room exists on the way), P32 (a fifth lease on
+-- empty data with 8 bytes of slack, with a byte too little and with room, and then a write into the slack and its
+-- cancel).
+abbrev pub spared : List Start
+spared =
+    starting (roomy 485) (write (bytesAt 5 (70 ∷ 71 ∷ []) ∷ []) ∷ [])
+    ∷ starting (roomy 485) (write (bytesAt 6 (71 ∷ []) ∷ []) ∷ [])
+    ∷ starting (roomy 485) (write (bytesAt 5 (replicate 8 70) ∷ []) ∷ [])
+    ∷ starting (roomy 485) (write (bytesAt 5 (replicate 9 70) ∷ []) ∷ [])
+    ∷ starting (roomy 486) (write (bytesAt 5 (replicate 9 70) ∷ []) ∷ [])
+    ∷ starting (roomy 486) (write (bytesAt 13 (78 ∷ []) ∷ []) ∷ [])
+    ∷ starting (roomy 485) (testAndWrite [] [] 1 2 ∷ write (bytesAt 4 (90 ∷ []) ∷ []) ∷ [])
+    ∷ starting (roomy 485) (testAndWrite [] [] 1 5 ∷ write [] ∷ [])
+    ∷ starting (roomy 485) (testAndWrite [] (bytesAt 99 (88 ∷ []) ∷ []) 1 6 ∷ [])
+    ∷ starting (spare 571 [] 8) (addLease 1 ∷ addLease 2 ∷ addLease 3 ∷ addLease 4 ∷ addLease 5 ∷ [])
+    ∷ starting (spare 572 [] 8)
+    (addLease 1 ∷ addLease 2 ∷ addLease 3 ∷ addLease 4 ∷ addLease 5 ∷ write (bytesAt 0 (65 ∷ 66 ∷ []) ∷ [])
+    ∷ cancelLease 5 ∷ [])
+    ∷ []
+
+-- What each ends in, in the same order.
+abbrev pub endings : List Ending
+endings =
+    ends (0 ∷ []) (65 ∷ 66 ∷ 67 ∷ 68 ∷ 69 ∷ 70 ∷ 71 ∷ []) 6 (485 ∷ 485 ∷ [])
+    ∷ ends (0 ∷ []) (65 ∷ 66 ∷ 67 ∷ 68 ∷ 69 ∷ 0 ∷ 71 ∷ []) 6 (485 ∷ 485 ∷ [])
+    ∷ ends (0 ∷ []) (letters ++ replicate 8 70) 0 (485 ∷ 485 ∷ [])
+    ∷ ends (11 ∷ []) letters 8 (485 ∷ 485 ∷ [])
+    ∷ ends (0 ∷ []) (letters ++ replicate 9 70) 0 (485 ∷ 486 ∷ [])
+    ∷ ends (0 ∷ []) (letters ++ (replicate 8 0 ++ (78 ∷ []))) 0 (485 ∷ 486 ∷ [])
+    ∷ ends (0 ∷ 0 ∷ []) (65 ∷ 66 ∷ 0 ∷ 0 ∷ 90 ∷ []) 8 (485 ∷ 485 ∷ 485 ∷ [])
+    ∷ ends (0 ∷ 0 ∷ []) letters 8 (485 ∷ 485 ∷ 485 ∷ [])
+    ∷ ends (0 ∷ []) (65 ∷ 66 ∷ 67 ∷ 68 ∷ 69 ∷ 0 ∷ []) 7 (485 ∷ 485 ∷ [])
+    ∷ ends (0 ∷ 0 ∷ 0 ∷ 0 ∷ 11 ∷ []) [] 8 (replicate 6 480)
+    ∷ ends (0 ∷ 0 ∷ 0 ∷ 0 ∷ 0 ∷ 0 ∷ 0 ∷ []) (65 ∷ 66 ∷ []) 6 (replicate 5 480 ++ (572 ∷ 572 ∷ 480 ∷ []))
+    ∷ []
+
+-- What a read of nothing is answered on a container.
+unfoldable pub judged : List ℕ → ℕ
+judged c = outcome c (reading []) 0
+
+-- The table of offset fields and slack bytes: P33 (on ABCDE in 500 bytes, the offset field 468 + s - 1; 468 + s;
+-- 468 + s + 1; the last place where the count fits; one past it; 2^64 - 4; 2^64 - 1; a size field of 2^64 - 468; beside
+-- one extra lease the last place where it fits; one past it; with 8 bytes of slack, none of them changed; the first,
+-- one in the middle and the last of them not zero).
+abbrev pub shifted : List (List ℕ)
+shifted =
+    put offsetAt (digits sizeWidth 472) lettered
+    ∷ put offsetAt (digits sizeWidth 473) lettered
+    ∷ put offsetAt (digits sizeWidth 474) lettered
+    ∷ put offsetAt (digits sizeWidth 496) lettered
+    ∷ put offsetAt (digits sizeWidth 497) lettered
+    ∷ put offsetAt (digits sizeWidth 18446744073709551612) lettered
+    ∷ put offsetAt (digits sizeWidth 18446744073709551615) lettered
+    ∷ put sizeAt (digits sizeWidth 18446744073709551148) lettered
+    ∷ leasedWith 571 2
+    ∷ take 571 (leasedWith 572 3)
+    ∷ roomy 500
+    ∷ put 473 (1 ∷ []) (roomy 500)
+    ∷ put 477 (1 ∷ []) (roomy 500)
+    ∷ put 480 (1 ∷ []) (roomy 500)
+    ∷ []
+
+-- What each is answered, in the same order.
+abbrev pub judgements : List ℕ
+judgements = 2 ∷ 0 ∷ 0 ∷ 0 ∷ 2 ∷ 2 ∷ 2 ∷ 2 ∷ 0 ∷ 2 ∷ 0 ∷ 2 ∷ 2 ∷ 2 ∷ []
+
+-- The table of what is touched beside two bytes of slack, with the used end at 571 of 573: P34 (a write of one byte
+-- into the slack; at its last byte; to its end; across it; past it; a byte more than the room; a cut by one byte; to
+-- nothing; a write past the slack and a cut inside it; the same and a cut to the size).
+abbrev pub fills : List (List ℕ)
+fills =
+    write (bytesAt 5 (70 ∷ []) ∷ [])
+    ∷ write (bytesAt 6 (71 ∷ []) ∷ [])
+    ∷ write (bytesAt 5 (70 ∷ 71 ∷ []) ∷ [])
+    ∷ write (bytesAt 5 (70 ∷ 71 ∷ 72 ∷ []) ∷ [])
+    ∷ write (bytesAt 7 (72 ∷ []) ∷ [])
+    ∷ write (bytesAt 9 (74 ∷ []) ∷ [])
+    ∷ testAndWrite [] [] 1 4
+    ∷ testAndWrite [] [] 1 0
+    ∷ testAndWrite [] (bytesAt 9 (88 ∷ []) ∷ []) 1 6
+    ∷ testAndWrite [] (bytesAt 9 (88 ∷ []) ∷ []) 1 5
+    ∷ []
+
+-- What each touches, in the same order.
+abbrev pub filled : List Touch
+filled =
+    touches 0 473 571 (473 ∷ []) (91 ∷ 473 ∷ [])
+    ∷ touches 0 473 571 (474 ∷ []) (91 ∷ 474 ∷ [])
+    ∷ touches 0 473 571 (473 ∷ 474 ∷ []) (91 ∷ 473 ∷ 474 ∷ [])
+    ∷ touches 0 473 572 (473 ∷ 474 ∷ 475 ∷ [])
+    (91 ∷ 99 ∷ 473 ∷ 474 ∷ 475 ∷ 478 ∷ 479 ∷ 482 ∷ 483 ∷ 486 ∷ 487 ∷ 551 ∷ 571 ∷ [])
+    ∷ touches 0 473 572 (475 ∷ []) (91 ∷ 99 ∷ 475 ∷ 478 ∷ 479 ∷ 482 ∷ 483 ∷ 486 ∷ 487 ∷ 551 ∷ 571 ∷ [])
+    ∷ touches 11 473 571 [] []
+    ∷ touches 0 472 571 [] (91 ∷ 472 ∷ [])
+    ∷ touches 0 468 571 [] (91 ∷ 468 ∷ 469 ∷ 470 ∷ 471 ∷ 472 ∷ [])
+    ∷ touches 0 473 571 [] (91 ∷ [])
+    ∷ touches 0 473 571 [] []
     ∷ []
 
 -- The claim of the tables.
@@ -365,4 +522,10 @@ pub record EdgesHold : Type 0 where
   pub fields : passing inFields (length leased) 0
       ≡ 84 ∷ 85 ∷ 86 ∷ 87 ∷ 88 ∷ 89 ∷ 90 ∷ 91 ∷ 92 ∷ 93 ∷ 94 ∷ 95 ∷ 96 ∷ 97 ∷ 98 ∷ 99 ∷ []
   -- every row of the table of what is touched touches what stands beside it
-  pub stretches : map touch rewrites ≡ touched
+  pub stretches : map (touch leased) rewrites ≡ touched
+  -- every row of the table of slack ends in what stands beside it
+  pub slack : map ending spared ≡ endings
+  -- every row of the table of offset fields and slack bytes is answered with the number beside it
+  pub places : map judged shifted ≡ judgements
+  -- every row of the table of what is touched beside slack touches what stands beside it
+  pub stretches-in-slack : map (touch (leasedWith 573 2)) fills ≡ filled

@@ -8,4 +8,5 @@ pub mod Leasing
 pub mod Outcomes
 pub mod Claims
 pub mod Stretch
+pub mod Slack
 pub mod Edges

@@ -1,5 +1,5 @@
 -- Outcomes (docs/RULES.md, O0 to O27): the table, the answer record, and what becomes of container and reply space.
-use Prim.Native.Nat.{ℕ}
+use Prim.Native.Nat.{ℕ, _+_, _-_}
 use mathlib.Core.Bool.{Bool, true, cond, not, _&&_}
 use mathlib.Core.List.{List, [], _∷_, _++_, map}
 use mathlib.Core.Option.{Option, none, some}
@@ -7,9 +7,9 @@ use lib.ListN.{length, take, replicate}
 use lib.Dec.{eqb, leb, ltb}
 use Rattle.octets.specs.Strings.{same}
 use Rattle.octets.specs.Moves.{put}
-use Rattle.format.specs.Layout.{magic, renewalOf, nodeSize, leaseLimit, secretSize, nodeAt}
+use Rattle.format.specs.Layout.{magic, renewalOf, nodeSize, leaseLimit, secretSize, nodeAt, dataAt, movedCount}
 use Rattle.format.specs.Container.{lengthAllowed, containerRows}
-use Rattle.format.specs.Parts.{Parts, used, partsOf, encode, fresh}
+use Rattle.format.specs.Parts.{Parts, countIn, used, partsOf, encode, fresh}
 use Rattle.rules.specs.Requests.{Request, testWrite, add, renew, cancel, read, requestOf}
 use Rattle.rules.specs.Testing.{resolves, testPiece, readPiece, holds, replyOf}
 use Rattle.octets.specs.Lists.{every, maybe}
@@ -18,12 +18,27 @@ use Rattle.rules.specs.Leasing.{renewedBy, cancelledBy, added, renewed, 
 use Rattle.octets.specs.Rows.{Row, firstRow, row}
 use Rattle.rules.specs.declared.Answer.{Answer}
 
--- What a request, if it is done, makes of the parts (W8, G3).
+-- What a request, if it is done, makes of the parts. With other data the count stands at the larger of its old place
+-- and the data's new end, and what lies between is slack; with other leases it stays (W8, G3, G13).
 unfoldable pub withBytes : Parts → List ℕ → Parts
-withBytes p d = record { room = p .room; node = p .node; enabler = p .enabler; bytes = d; leases = p .leases }
+withBytes p d = record {
+  room = p .room;
+  node = p .node;
+  enabler = p .enabler;
+  bytes = d;
+  slack = movedCount (countIn p) (length d) - (dataAt + length d);
+  leases = p .leases;
+}
 
 unfoldable pub withLeases : Parts → List (List ℕ) → Parts
-withLeases p ls = record { room = p .room; node = p .node; enabler = p .enabler; bytes = p .bytes; leases = ls }
+withLeases p ls = record {
+  room = p .room;
+  node = p .node;
+  enabler = p .enabler;
+  bytes = p .bytes;
+  slack = p .slack;
+  leases = ls;
+}
 
 unfoldable pub after : Parts → Request → Parts
 after p (testWrite k ts ws cut) = withBytes p (rewritten ws cut (p .bytes))

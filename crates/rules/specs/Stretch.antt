@@ -7,7 +7,7 @@ use mathlib.Core.List.{List}
 use lib.ListN.{getD}
 use Rattle.octets.specs.Facts.{Octets}
 use Rattle.octets.specs.Lists.{anyOf}
-use Rattle.format.specs.Layout.{sizeAt, leasesAt, dataAt, sizeOf, dataEnd, usedEnd}
+use Rattle.format.specs.Layout.{sizeAt, offsetAt, leasesAt, dataAt, sizeOf, countAt, dataEnd, usedEnd}
 use Rattle.rules.specs.Requests.{kindOf, requestOf}
 use Rattle.rules.specs.Changes.{within, writesAt, changesOf}
 use Rattle.rules.specs.Outcomes.{answered, containerAfter}
@@ -38,3 +38,7 @@ pub record OnlyTheStretch (c q r : List ℕ) : Type 0 where
   -- where the size stays, so is every byte outside the written ones, of a container made of bytes
   pub still : kindOf q ≡ 1 → answered c q r .number ≡ 0 → sizeOf (containerAfter c q r) ≡ sizeOf c → Octets c →
       (i : ℕ) → inWritten c q (containerAfter c q r) i ≡ false → getD (containerAfter c q r) i 0 ≡ getD c i 0
+  -- where the count stays, so is every byte outside the size field, the written ones and those that a cut frees
+  pub in-place : kindOf q ≡ 1 → answered c q r .number ≡ 0 → countAt (containerAfter c q r) ≡ countAt c → Octets c →
+      (i : ℕ) → within sizeAt offsetAt i ≡ false → inWritten c q (containerAfter c q r) i ≡ false →
+      within (dataEnd (containerAfter c q r)) (dataEnd c) i ≡ false → getD (containerAfter c q r) i 0 ≡ getD c i 0

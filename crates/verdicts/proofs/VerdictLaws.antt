@@ -21,15 +21,15 @@ use Rattle.rules.specs.Outcomes.{after, replyTo, rows, admitRows}
 use Rattle.rules.specs.Outcomes.{withBytes, findRows, roomRows}
 use Rattle.requests.specs.Forms.{cutIn, PartedIn, writeIn, testsIn, writesIn}
 use Rattle.rules.specs.Sizes.{cutSize, finalSize, sizeAll}
-use Rattle.format.specs.Layout.{secretSize, dataOf, usedLength, enablerOf}
+use Rattle.format.specs.Layout.{secretSize, dataOf, usedLength, enablerOf, movedCount}
 use Rattle.octets.specs.Lists.{every}
 use Rattle.rules.specs.Writing.{grow, rewritten, placed, writesResolve}
-use Rattle.format.specs.Parts.{partsOf, used, Parts, extras}
+use Rattle.format.specs.Parts.{partsOf, used, Parts}
 use Rattle.replies.specs.Pieces.{piecesIn, measuredOf}
 use Rattle.writes.specs.Rewrite.{Final}
 use Rattle.rules.specs.Testing.{resolves, testPiece, holds, position}
-use Rattle.format.proofs.KnownLaws.{data-framed, extras-framed}
-use Rattle.rules.proofs.Kept.{after-valid}
+use Rattle.format.proofs.KnownLaws.{frame-count, frame-extras, data-framed}
+use Rattle.rules.proofs.Kept.{after-valid, used-rewritten}
 use Rattle.rules.proofs.WriteLaws.{length-cutTo, length-writeAll}
 use Rattle.octets.specs.Strings.{same}
 use Rattle.replies.proofs.PieceLaws.{test-pieces, test-resolve}
@@ -75,10 +75,20 @@ after-size : (p : Parts) (q : List ℕ) (t : Parted)
 unfolding after withBytes
 after-size p q t = length-rewritten (writesIn t q) (cutIn (t .cut)) (p .bytes)
 
-after-used : (p : Parts) (q : List ℕ) (t : Parted)
-    → used (after p (writeIn t q)) ≡ usedLength (length (after p (writeIn t q) .bytes)) (extras (p .leases))
-unfolding used after withBytes
-after-used p q t = refl
+bytes-after : (c q : List ℕ) (t : Parted)
+    → length (rewritten (writesIn t q) (cutIn (t .cut)) (partsOf c .bytes))
+    ≡ length (after (partsOf c) (writeIn t q) .bytes)
+unfolding after withBytes
+bytes-after c q t = refl
+
+after-used : (c q : List ℕ) (f : Frame) (t : Parted) (s : ℕ) → Known c f
+    → length (after (partsOf c) (writeIn t q) .bytes) ≡ s
+    → used (after (partsOf c) (writeIn t q)) ≡ usedLength (movedCount (f .offset) s) (f .extras)
+unfolding after
+after-used c q f t s k e =
+    used-rewritten c (rewritten (writesIn t q) (cutIn (t .cut)) (partsOf c .bytes)) (k .formed)
+    ∙ rw (← frame-count k, ← frame-extras k) (ap (λ (n : ℕ). usedLength (movedCount (f .offset) n) (f .extras))
+    (bytes-after c q t ∙ e))
 
 -- ---- the verdict by what the code finds
 -- What is measured first: d, the data as the code takes it; m, what the tests ask; x, what the writes reach; s, the
@@ -116,9 +126,8 @@ module _ {c q d : List ℕ} {f : Frame} {t : Parted} {m : Measured} {x : Reached
       (ap (λ (b : Bool). b && writesResolve (writesIn t q) (f .size))
       (test-resolve (t .tests .count) (t .tests .first .at) (t .specimens .at) q (f .size)))
 
-  used-after : used (after (partsOf c) asks) ≡ usedLength s (f .extras)
-  unfolding partsOf
-  used-after = after-used (partsOf c) q t ∙ rw (final-is, extras-framed (F .known))
+  used-after : used (after (partsOf c) asks) ≡ usedLength (movedCount (f .offset) s) (f .extras)
+  used-after = after-used c q f t s (F .known) final-is
 
   pub final-bound : (s ≤ x .size) × (x .size ≤ f .size + 2147483648 + length q)
   final-bound = (
@@ -140,7 +149,7 @@ module _ {c q d : List ℕ} {f : Frame} {t : Parted} {m : Measured} {x : Reached
     finds = row 7 (ltb space (m .length)) ∷ row 8 (not (every (holds d) (testsIn t q))) ∷ []
 
     abbrev pub fits : List Row
-    fits = row 11 (ltb (length c) (usedLength s (f .extras))) ∷ []
+    fits = row 11 (ltb (length c) (usedLength (movedCount (f .offset) s) (f .extras))) ∷ []
 
     rows-are : rows (partsOf c) asks space ++ roomRows (partsOf c) asks ≡ (admits ++ finds) ++ fits
     unfolding rows admitRows findRows roomRows partsOf
@@ -190,9 +199,8 @@ module _ {c q : List ℕ} {f : Frame} {t : Parted} {v : Verdict} (D : Decided c 
   unfolding verdictOf
   size-decided = ap (λ (x : Verdict). x .size) (D .verdict)
 
-  used-decided : used (after (partsOf c) (writeIn t q)) ≡ usedLength (v .size) (f .extras)
-  unfolding partsOf
-  used-decided = after-used (partsOf c) q t ∙ rw (extras-framed (D .known), ← size-decided)
+  used-decided : used (after (partsOf c) (writeIn t q)) ≡ usedLength (movedCount (f .offset) (v .size)) (f .extras)
+  used-decided = after-used c q f t (v .size) (D .known) (sym size-decided)
 
   fits-decided : v .number ≡ 0 → used (after (partsOf c) (writeIn t q)) ≤ length c
   unfolding after withBytes partsOf

@@ -5,11 +5,9 @@ use native.Mathlib.Omega.{arith}
 use lib.ListN.{replicate, length}
 use borrow.Author.Needs.{needs}
 use Rattle.octets.specs.Facts.{Octets}
-use Rattle.octets.specs.Numbers.{digits}
 use Rattle.octets.specs.Moves.{put}
-use Rattle.format.specs.Layout.{recordSize, countSize, records}
+use Rattle.format.specs.Layout.{recordSize, records}
 use Rattle.format.specs.Parts.{noLease}
-use Rattle.format.proofs.WellFormed.{count-is}
 use Rattle.rules.specs.Leasing.{trim}
 use Rattle.leases.proofs.PlaceLaws.{known-bounds, Inside, inside, kept-few}
 use Rattle.leases.proofs.ChangeLaws.{drop-tail}
@@ -39,17 +37,11 @@ kept-requires : tie.Need-kept-requires
 kept-requires c κs =
     let p = c .before .before .before .before .before .before in
     let h = placed p in
-    (omega (arith, c .extras-at .ensures, count-is (p .before .before .args .frame .size)), omega arith)
-
-count-at-requires : tie.Need-count-at-requires
-count-at-requires c κs =
-    let p = c .before .before .before .before .before .before .before .before in
-    let h = placed p in
-    omega arith
+    (omega (arith, c .extras-at .ensures), omega arith)
 
 cast-put-u32 : tie.Need-cast-put-u32
 cast-put-u32 c =
-    let k = c .before .before in
+    let k = c .before in
     let d = k .before .before .before .before .before in
     let p = d .before .before in
     let h = placed p in
@@ -61,9 +53,9 @@ cast-put-u32 c =
 
 put-u32-requires : tie.Need-put-u32-requires
 put-u32-requires c κs =
-    let p = c .before .before .before .before .before .before .before .before .before in
+    let p = c .before .before .before .before .before .before .before .before in
     let h = placed p in
-    omega (arith, c .count-at .ensures, count-is (p .before .before .args .frame .size))
+    omega arith
 
 same-length : tie.Need-same-length
 same-length c = search needs
@@ -71,8 +63,7 @@ same-length c = search needs
 returns : tie.Need-returns
 unfolding noLease
 returns c =
-    let n = c .before .before .before in
-    let k = n .before .before in
+    let k = c .before .before .before .before in
     let x = k .before in
     let z = x .before .before .before .before in
     let p = z .before .before in
@@ -88,7 +79,6 @@ returns c =
     k .kept .ensures
     ∙ ap (λ (i : ℕ). length (trim (records (a .frame .extras) i d))) (x .extras-at .ensures) in
     c .before .before .put-u32 .ensures
-    ∙ ap (λ (i : ℕ). put i (digits countSize (k .kept .result)) d) (n .count-at .ensures)
     ∙ drop-tail (a .c .now) (a .frame) (s .pre .0) o (a .i) (s .pre .1) d e _ left
 
 pub drop-record-spec : {M : Type 1} → statement M
@@ -100,7 +90,6 @@ drop-record-spec =
     clear-part-requires
     extras-at-requires
     kept-requires
-    count-at-requires
     cast-put-u32
     put-u32-requires
     same-length

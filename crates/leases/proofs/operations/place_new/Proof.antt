@@ -27,8 +27,8 @@ nowhere c = sym (c .enum-told .given .1) ∙ c .before .before .find-vacant .ens
 -- the used length with one more extra
 more-used : (c : tie.After-used) →
     let a = c .before .before .before .before .before .before .before .before .before .before .before .args in
-    c .used .result ≡ usedLength (a .frame .size) (a .frame .extras + 1)
-more-used c = c .used .ensures ∙ ap (λ (f : Frame). usedLength (f .size) (f .extras)) (c .before .with-extra .ensures)
+    c .used .result ≡ usedLength (a .frame .offset) (a .frame .extras + 1)
+more-used c = c .used .ensures ∙ ap (λ (f : Frame). usedLength (f .offset) (f .extras)) (c .before .with-extra .ensures)
 
 count-leases-requires : tie.Need-count-leases-requires
 count-leases-requires c κs = search needs
@@ -71,7 +71,7 @@ used-requires c κs =
     let s = c .before .before .before .before .before .before .before .before .before .before in
     let z = known-bounds _ _ (s .pre .0) in
     let e = c .with-extra .ensures in
-    (omega (arith, ap (λ (f : Frame). f .size) e), omega (arith, ap (λ (f : Frame). f .extras) e))
+    (omega (arith, ap (λ (f : Frame). f .offset) e), omega (arith, ap (λ (f : Frame). f .extras) e))
 
 same-length-2 : tie.Need-same-length-2
 same-length-2 c = search needs

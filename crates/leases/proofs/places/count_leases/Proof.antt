@@ -1,7 +1,6 @@
 -- The leases of the four places and of the extras are all. Assumes nothing.
 use native.Mathlib.Omega.{arith}
 use Rattle.format.specs.Layout.{fixedPlaces, leasesAt}
-use Rattle.format.proofs.WellFormed.{count-is}
 use Rattle.leases.proofs.PlaceLaws.{known-bounds, present-few, present-leases}
 use Rattle.leases.proofs.places.count_leases.Statement.{statement}
 use Rattle.leases.proofs.places.count_leases.Tie as tie
@@ -16,7 +15,7 @@ count-held-requires-2 : tie.Need-count-held-requires-2
 count-held-requires-2 c κs =
     let s = c .before .before .before in
     let z = known-bounds _ _ (s .pre) in
-    (omega (arith, c .extras-at .ensures, count-is (s .args .frame .size)), omega arith)
+    (omega (arith, c .extras-at .ensures), omega arith)
 
 add-result : tie.Need-add-result
 add-result c =

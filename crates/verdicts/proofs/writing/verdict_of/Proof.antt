@@ -1,7 +1,10 @@
 -- The three groups of rows in turn, on what has been measured.
 use mathlib.Core.Path.{_≡_}
+use Prim.Native.Nat.{_+_}
 use native.Mathlib.Omega.{arith}
 use Rattle.octets.specs.Rows.{firstRow}
+use Rattle.format.specs.Layout.{dataAt}
+use Rattle.format.proofs.WellFormed.{moved-below}
 use Rattle.format.proofs.KnownLaws.{lent, known-room, data-lent, lent-small}
 use Rattle.verdicts.proofs.VerdictLaws.{Found, final-bound, admits, fits, admit-verdict, find-verdict}
 use Rattle.verdicts.proofs.VerdictLaws.{fit-verdict}
@@ -71,14 +74,23 @@ returns-2 c = find-verdict (found (c .before .before .before .before .before))
     (admitted (c .before .before .before)) (c .before .before .if1 .left) _ (c .before .find .ensures) (c .if2 .taken)
 
 resized-requires : tie.Need-resized-requires
-resized-requires c κs = search needs
+resized-requires c κs =
+    let s = c .before .before .before .before .before .before .before .before .before .before .before .before in
+    let b = final-bound (found (c .before .before .before .before .before)) in
+    let k = known-room (s .pre .0) in
+    omega (arith, s .pre .1 .short)
 
 used-requires : tie.Need-used-requires
 used-requires c κs =
     let s = c .before .before .before .before .before .before .before .before .before .before .before .before .before in
     let b = final-bound (found (c .before .before .before .before .before .before)) in
     let k = known-room (s .pre .0) in
-    rw (c .resized .ensures) (omega (arith, s .pre .1 .short), omega arith)
+    let a = s .args in
+    let n = c .before .before .before .before .before .before .cut-size .result in
+    rw (c .resized .ensures) (
+      moved-below (a .frame .offset) n (dataAt + 4294967296) (omega arith) (omega (arith, s .pre .1 .short)),
+      omega arith,
+    )
 
 fit-requires : tie.Need-fit-requires
 fit-requires c κs = search needs

@@ -1,8 +1,8 @@
--- What is lent is the data.
-use borrow.Author.Needs.{needs}
+-- What is lent is the data at its final size.
 use Rattle.rules.specs.Writing.{placed}
 use Rattle.requests.specs.Forms.{writesIn}
 use Rattle.writes.proofs.RewriteLaws.{data-laid}
+use borrow.Author.Needs.{needs}
 use Rattle.writes.proofs.rewrite.write_data.Statement.{statement}
 use Rattle.writes.proofs.rewrite.write_data.Tie as tie
 
@@ -25,10 +25,10 @@ same-length : tie.Need-same-length
 same-length c = search needs
 
 returns : tie.Need-returns
-returns c k =
+returns c o k w =
     let a = c .before .before .before .before .before .before .args in
     let ws = placed (writesIn (a .t) (a .q .now)) (a .size) in
-    record { turn = λ L. data-laid _ (a .f) k (a .c .now) _ _ _ _ L ws (c .before .before .overlay-all .ensures) }
+    record { turn = λ L. data-laid _ o k (a .c .now) _ _ _ _ L (a .f) ws w (c .before .before .overlay-all .ensures) }
 
 pub write-data-spec : {M : Type 1} → statement M
 write-data-spec =

@@ -2,7 +2,6 @@
 use native.Mathlib.Omega.{arith}
 use borrow.Author.Tests.{lt-ltb, le-ltb}
 use Rattle.format.specs.View.{placeAt}
-use Rattle.format.proofs.WellFormed.{count-is}
 use borrow.Author.Needs.{needs}
 use Rattle.format.proofs.layout.Frame.place_at.Statement.{statement}
 use Rattle.format.proofs.layout.Frame.place_at.Tie as tie
@@ -24,7 +23,7 @@ mul-result-2 : tie.Need-mul-result-2
 mul-result-2 c = search needs
 
 add-result-2 : tie.Need-add-result-2
-add-result-2 c = let s = c .before .before in omega (arith, c .extras-at .ensures, count-is (s .args .self .size))
+add-result-2 c = omega (arith, c .extras-at .ensures)
 
 returns-2 : tie.Need-returns-2
 unfolding placeAt
