@@ -3,20 +3,20 @@ use mathlib.Core.Path.{_≡_, refl, sym, ap, _∙_}
 use mathlib.Core.Bool.{Bool, true, false, cond}
 use mathlib.Core.List.{List, [], _∷_}
 use Prim.Native.Nat.{ℕ}
-use lib.ListN.{length}
+use lib.ListN.{length, getD}
 use lib.Dec.{eqb}
 use Rattle.format.specs.Layout.{dataOf}
-use Rattle.format.specs.Parts.{Parts, encode, fresh}
+use Rattle.format.specs.Parts.{Parts, partsOf, encode, fresh}
 use Rattle.format.specs.Claims.{Valid}
-use Rattle.format.proofs.RoundTrip.{encode-formed, leases-encode, data-encode}
+use Rattle.format.proofs.RoundTrip.{encode-formed, leases-encode, data-encode, encode-parts, parts-valid}
 use Rattle.rules.specs.Requests.{requestOf}
 use Rattle.rules.specs.Outcomes.{afterOf, createOutcome, createdContainer}
 use Rattle.rules.proofs.Demand1.{created, created-valid}
 use Rattle.histories.specs.Runs.{Call, Heard, hears, leaves, ruleOutcome, ruleHears, ruleLeaves, answers, final}
 use Rattle.histories.specs.Runs.{isLease, isData, noRoom, Never, Woven}
-use Rattle.rules.specs.Changes.{Change, sizeAfter, byteAfter, changesOf}
+use Rattle.rules.specs.Changes.{Change, sizeAfter, byteOver, byteAfter, changesOf}
 use Rattle.histories.specs.Accepted.{took, accepted}
-use Rattle.histories.specs.Claims.{Alike, ByRules, Told, Demand3, Histories}
+use Rattle.histories.specs.Claims.{Alike, ByRules, Told, Demand3, InUse, Histories}
 use Rattle.histories.proofs.Sides.{agree}
 use Rattle.histories.proofs.Follows.{valid-final, follows-answers, follows-final}
 use Rattle.rules.proofs.ChangeLaws.{performAll, length-performAll, at-performAll, performAll-append, after-bytes}
@@ -100,20 +100,34 @@ bytes-accepted (x ∷ xs) p =
     ∙ ap (performAll (accepted xs heard (sizeAfter os (length d)))) (step-bytes x p)
     ∙ sym (performAll-append os (accepted xs heard (sizeAfter os (length d))) d)
 
-pub told : (os : List Change) → Told os (performAll os [])
-unfolding byteAfter
-told os = record { size = length-performAll os []; each = λ i. at-performAll os [] i }
+-- on any valid parts with data d: the size, and each byte
+module _ (h : List Call) (p : Parts) (v : Valid p) (d : List ℕ) (e : p .bytes ≡ d) where
+  abbrev did : List Change
+  did = accepted h (answers hears leaves h (encode p)) (length d)
 
-pub data-told : (h : List Call) (p : Parts) → Valid p → p .bytes ≡ []
+  data-final : dataOf (final leaves h (encode p)) ≡ performAll did d
+  data-final =
+      let b : ByRules h (encode p) p = by-rules h p v in
+      let f : Valid (final ruleLeaves h p) =
+      valid-final Valid encode ruleHears ruleLeaves hears leaves follows h p v in
+      rw (b .buffer, b .heard) (data-encode (final ruleLeaves h p) f ∙ bytes-accepted h p ∙ rw e)
+
+  pub size-final : length (dataOf (final leaves h (encode p))) ≡ sizeAfter did (length d)
+  size-final = ap length data-final ∙ length-performAll did d
+
+  pub each-final : (i : ℕ) → getD (dataOf (final leaves h (encode p))) i 0 ≡ byteOver did i (getD d i 0)
+  unfolding byteOver
+  each-final i = ap (λ (x : List ℕ). getD x i 0) data-final ∙ at-performAll did d i
+
+data-told : (h : List Call) (p : Parts) → Valid p → p .bytes ≡ []
     → Told (accepted h (answers hears leaves h (encode p)) 0) (dataOf (final leaves h (encode p)))
-data-told h p v e =
-    let b : ByRules h (encode p) p = by-rules h p v in
-    let f : Valid (final ruleLeaves h p) = valid-final Valid encode ruleHears ruleLeaves hears leaves follows h p v in
-    let os : List Change = accepted h (answers ruleHears ruleLeaves h p) 0 in
-    let d : final ruleLeaves h p .bytes ≡ performAll os [] = bytes-accepted h p ∙ rw e in
-    rw (b .buffer, b .heard, data-encode (final ruleLeaves h p) f, d) (told os)
+unfolding byteAfter
+data-told h p v e = record {
+  size = size-final h p v [] e;
+  each = each-final h p v [] e;
+}
 
-pub demand-3-parts : (p : Parts) → Valid p → p .bytes ≡ [] → Demand3 (encode p) p
+demand-3-parts : (p : Parts) → Valid p → p .bytes ≡ [] → Demand3 (encode p) p
 demand-3-parts p v e = record {
   woven = λ h k. woven-alike h k p v;
   rules = λ h. by-rules h p v;
@@ -130,3 +144,13 @@ demand-3-created b node enabler e = rw (created b node enabler e) (demand-3-part
 -- DEMAND 3
 pub demand-3 : (b node enabler : List ℕ) → Histories b node enabler
 demand-3 b node enabler = record { fresh-made = demand-3-created b node enabler }
+
+-- A CONTAINER IN USE
+pub in-use : (c : List ℕ) → InUse c
+unfolding partsOf
+in-use c = record {
+  woven = λ w o h k. rw (encode-parts c w o) at (woven-alike h k (partsOf c) (parts-valid c w));
+  rules = λ w o h. rw (encode-parts c w o) at (by-rules h (partsOf c) (parts-valid c w));
+  size = λ w o h. rw (encode-parts c w o) at (size-final h (partsOf c) (parts-valid c w) (dataOf c) refl);
+  each = λ w o h. rw (encode-parts c w o) at (each-final h (partsOf c) (parts-valid c w) (dataOf c) refl);
+}

@@ -11,35 +11,38 @@ use lib.Dec.{leb}
 use lib.IntN.{pos}
 use borrow.Author.Tests.{le-leb}
 use Rattle.format.specs.Layout.{dataOf}
+use Rattle.format.specs.Parts.{Parts, partsOf, encode, fresh}
+use Rattle.format.specs.Claims.{Valid}
+use Rattle.format.proofs.RoundTrip.{encode-parts, parts-valid}
 use Rattle.octets.specs.Lists.{orElse}
 use Rattle.octets.specs.Facts.{Each}
 use Rattle.octets.specs.Last.{lastSaid, newer}
 use Rattle.rules.specs.Testing.{resolve, position, piece}
 use Rattle.rules.specs.Writing.{Placed, placed}
-use Rattle.rules.specs.Outcomes.{createOutcome, createdContainer}
+use Rattle.rules.proofs.Demand1.{created, created-valid}
 use Rattle.histories.specs.Runs.{Call, hears, leaves, answers, final}
-use Rattle.rules.specs.Changes.{Change, wrote, cutAt, sizeBy, sizeAfter, says, byteAfter, cutChange, writeChanges}
-use Rattle.rules.specs.Changes.{changesOf}
+use Rattle.rules.specs.Changes.{Change, wrote, cutAt, sizeBy, sizeAfter, says, byteOver, byteAfter, cutChange}
+use Rattle.rules.specs.Changes.{writeChanges, changesOf}
 use Rattle.histories.specs.Accepted.{took, accepted}
-use Rattle.histories.specs.Claims.{Demand3}
 use Rattle.histories.specs.Incident.{Cuts, laterChanges, Untouched, middle, end, Forgets, Incident}
-use Rattle.histories.proofs.Demand3.{demand-3}
+use Rattle.histories.specs.Incident.{IncidentInUse}
+use Rattle.histories.proofs.Demand3.{size-final, each-final}
 use Rattle.octets.proofs.ListLaws.{lastSaid-append, newer-assoc}
 
 -- ---- what was said before a cut is forgotten
-zero-under : (x y : Option ℕ) → orElse (newer (newer y (some 0)) x) 0 ≡ orElse x 0
+zero-under : (x y : Option ℕ) (z : ℕ) → orElse (newer (newer y (some 0)) x) z ≡ orElse x 0
 unfolding orElse newer
-zero-under (some b) y = refl
-zero-under none y = refl
+zero-under (some b) y z = refl
+zero-under none y z = refl
 
-pub cut-forgets : (a b : List Change) (m i : ℕ) → m ≤ i → byteAfter (a ++ (cutAt m ∷ b)) i ≡ byteAfter b i
-unfolding byteAfter lastSaid says
-cut-forgets a b m i h =
+pub cut-forgets : (a b : List Change) (m i z : ℕ) → m ≤ i → byteOver (a ++ (cutAt m ∷ b)) i z ≡ byteAfter b i
+unfolding byteOver byteAfter lastSaid says
+cut-forgets a b m i z h =
     let x : Option ℕ = lastSaid (says i) a in
     let y : Option ℕ = lastSaid (says i) b in
     let e : lastSaid (says i) (a ++ (cutAt m ∷ b)) ≡ newer (newer x (some 0)) y =
     lastSaid-append (says i) a (cutAt m ∷ b) ∙ rw (le-leb m i h) (newer-assoc x (some 0) y) in
-    ap (λ (z : Option ℕ). orElse z 0) e ∙ zero-under y x
+    ap (λ (u : Option ℕ). orElse u z) e ∙ zero-under y x z
 
 -- ---- the changes of a history in two stretches
 sizeAfter-append : (a b : List Change) (n : ℕ) → sizeAfter (a ++ b) n ≡ sizeAfter b (sizeAfter a n)
@@ -72,15 +75,15 @@ took-cut : (x : Call) (c : List ℕ) (m n : ℕ) (q : Cuts x c m) →
 unfolding took changesOf cutChange
 took-cut x c m n q = rw (q .done, q .asks) (writes-then (placed (q .writes) n) (cutAt m ∷ []))
 
-accepted-cut : (h : List Call) (x : Call) (c : List ℕ) (m : ℕ) (q : Cuts x (final leaves h c) m) →
-    (a : List Change) × (changes (h ++ (x ∷ [])) c 0 ≡ a ++ (cutAt m ∷ []))
+accepted-cut : (h : List Call) (x : Call) (c : List ℕ) (s m : ℕ) (q : Cuts x (final leaves h c) m) →
+    (a : List Change) × (changes (h ++ (x ∷ [])) c s ≡ a ++ (cutAt m ∷ []))
 unfolding accepted answers
-accepted-cut h x c m q =
-    let n : ℕ = sizeAfter (changes h c 0) 0 in
+accepted-cut h x c s m q =
+    let n : ℕ = sizeAfter (changes h c s) s in
     let w : List Change = writeChanges (placed (q .writes) n) [] in
     let t : took x (hears x (final leaves h c)) n ++ [] ≡ w ++ (cutAt m ∷ []) =
     append-nil _ ∙ took-cut x (final leaves h c) m n q in
-    (changes h c 0 ++ w, accepted-append h (x ∷ []) c 0 ∙ rw t (sym (append-assoc (changes h c 0) w (cutAt m ∷ []))))
+    (changes h c s ++ w, accepted-append h (x ∷ []) c s ∙ rw t (sym (append-assoc (changes h c s) w (cutAt m ∷ []))))
 
 -- ---- a place that no change writes
 untouched-says : (o : Change) (i : ℕ) → Untouched i o → orElse (says i o) 0 ≡ 0
@@ -93,7 +96,7 @@ untouched-says (cutAt m) i u = go (leb m i)
     go false = refl
 
 pub untouched-zero : (os : List Change) (i : ℕ) → Each (Untouched i) os → byteAfter os i ≡ 0
-unfolding byteAfter lastSaid orElse newer
+unfolding byteOver byteAfter lastSaid orElse newer
 untouched-zero [] i u = refl
 untouched-zero (o ∷ os) i u = go (lastSaid (says i) os) (untouched-zero os i (u .1))
   where
@@ -101,11 +104,14 @@ untouched-zero (o ∷ os) i u = go (lastSaid (says i) os) (untouched-zero os i (
     go (some v) e = e
     go none e = untouched-says o i (u .0)
 
--- ---- after a cut, on a fresh container
-module _ (b node enabler : List ℕ) (fresh : createOutcome b node enabler ≡ 0) (before : List Call) (x : Call)
-    (after : List Call) (m : ℕ) (cuts : Cuts x (final leaves before (createdContainer b node enabler)) m) where
+-- ---- after a cut, on any valid parts
+module _ (p : Parts) (v : Valid p) (before : List Call) (x : Call) (after : List Call) (m : ℕ)
+    (cuts : Cuts x (final leaves before (encode p)) m) where
   abbrev c : List ℕ
-  c = createdContainer b node enabler
+  c = encode p
+
+  abbrev d : List ℕ
+  d = p .bytes
 
   since : List Change
   since = laterChanges after (middle c before x)
@@ -113,20 +119,20 @@ module _ (b node enabler : List ℕ) (fresh : createOutcome b node enabler ≡ 0
   incident-byte : (i : ℕ) → m ≤ i → getD (dataOf (end c before x after)) i 0 ≡ byteAfter since i
   unfolding since
   incident-byte i h =
-      let d : Demand3 c _ = demand-3 b node enabler .fresh-made fresh in
-      let s : length (dataOf (middle c before x)) ≡ sizeAfter (changes (before ++ (x ∷ [])) c 0) 0 =
-      d .told (before ++ (x ∷ [])) .size in
-      let a = accepted-cut before x c m cuts in
-      d .told ((before ++ (x ∷ [])) ++ after) .each i
-      ∙ ap (λ (os : List Change). byteAfter os i) (accepted-append (before ++ (x ∷ [])) after c 0)
-      ∙ rw (← s, a .1, append-assoc (a .0) (cutAt m ∷ []) since) (cut-forgets (a .0) since m i h)
+      let n : ℕ = length d in
+      let s : length (dataOf (middle c before x)) ≡ sizeAfter (changes (before ++ (x ∷ [])) c n) n =
+      size-final (before ++ (x ∷ [])) p v d refl in
+      let a = accepted-cut before x c n m cuts in
+      each-final ((before ++ (x ∷ [])) ++ after) p v d refl i
+      ∙ ap (λ (os : List Change). byteOver os i (getD d i 0)) (accepted-append (before ++ (x ∷ [])) after c n)
+      ∙ rw (← s, a .1, append-assoc (a .0) (cutAt m ∷ []) since) (cut-forgets (a .0) since m i (getD d i 0) h)
 
   incident-read : (o n j : ℕ) → j < n → m ≤ o + j →
       getD (piece (dataOf (end c before x after)) (pos o) n) j 0 ≡ byteAfter since (o + j)
   unfolding piece position resolve orElse
   incident-read o n j h g =
-      let d : List ℕ = dataOf (end c before x after) in
-      getD-take n (drop o d) j 0 h ∙ getD-drop o d j 0 ∙ incident-byte (o + j) g
+      let e : List ℕ = dataOf (end c before x after) in
+      getD-take n (drop o e) j 0 h ∙ getD-drop o e j 0 ∙ incident-byte (o + j) g
 
   forgets : Forgets c before x after m
   unfolding since
@@ -138,4 +144,13 @@ module _ (b node enabler : List ℕ) (fresh : createOutcome b node enabler ≡ 0
 
 -- THE INCIDENT cannot happen again
 pub incident : (b node enabler : List ℕ) → Incident b node enabler
-incident b node enabler = record { forgets = forgets b node enabler }
+incident b node enabler = record {
+  forgets = λ e. rw (created b node enabler e)
+      (forgets (fresh (length b) node enabler) (created-valid b node enabler e));
+}
+
+-- Nor on a container in use.
+pub incident-in-use : (c : List ℕ) → IncidentInUse c
+incident-in-use c = record {
+  forgets = λ w o. rw (encode-parts c w o) at (forgets (partsOf c) (parts-valid c w));
+}

@@ -6,10 +6,11 @@ use mathlib.Core.List.{List}
 use lib.ListN.{length, getD}
 use Rattle.format.specs.Container.{wellFormed}
 use Rattle.format.specs.Layout.{dataOf, leasesOf}
-use Rattle.format.specs.Parts.{Parts, encode, fresh}
+use Rattle.octets.specs.Facts.{Octets}
+use Rattle.format.specs.Parts.{Parts, partsOf, encode, fresh}
 use Rattle.histories.specs.Runs.{Call, hears, leaves, ruleHears, ruleLeaves, answers, final, isLease, isData}
 use Rattle.histories.specs.Runs.{beside, noRoom, Never, Woven}
-use Rattle.rules.specs.Changes.{Change, sizeAfter, byteAfter}
+use Rattle.rules.specs.Changes.{Change, sizeAfter, byteOver, byteAfter}
 use Rattle.rules.specs.Outcomes.{createOutcome, createdContainer}
 use Rattle.histories.specs.Accepted.{accepted}
 
@@ -39,6 +40,20 @@ pub record Demand3 (c : List ℕ) (p : Parts) : Type 0 where
       → Never noRoom (answers hears leaves k c) → Alike h k c
   pub rules : (h : List Call) → ByRules h c p
   pub told : (h : List Call) → Told (accepted h (answers hears leaves h c) 0) (dataOf (final leaves h c))
+
+-- Of a container that is in use, such as one with slack that an older node left: any well-formed one made of bytes.
+-- Woven histories end alike, the rules give what happens, and the data has the size and the bytes that the accepted
+-- changes give to what was there (D3, H14).
+pub record InUse (c : List ℕ) : Type 0 where
+  pub woven : wellFormed c ≡ true → Octets c → (h k : List Call) → Woven h k
+      → Never noRoom (answers hears leaves h c) → Never noRoom (answers hears leaves k c) → Alike h k c
+  pub rules : wellFormed c ≡ true → Octets c → (h : List Call) → ByRules h c (partsOf c)
+  pub size : wellFormed c ≡ true → Octets c → (h : List Call) →
+      length (dataOf (final leaves h c))
+      ≡ sizeAfter (accepted h (answers hears leaves h c) (length (dataOf c))) (length (dataOf c))
+  pub each : wellFormed c ≡ true → Octets c → (h : List Call) (i : ℕ) →
+      getD (dataOf (final leaves h c)) i 0
+      ≡ byteOver (accepted h (answers hears leaves h c) (length (dataOf c))) i (getD (dataOf c) i 0)
 
 -- Demand 3 of every container that create has just made with outcome 0, at any allowed buffer length (H1).
 pub record Histories (b node enabler : List ℕ) : Type 0 where

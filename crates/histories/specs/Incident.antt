@@ -2,13 +2,14 @@
 -- histories (docs/RULES.md, D4). Proved in proofs/Incident.antt.
 use Prim.Native.Nat.{ℕ, _+_, _≤_, _<_}
 use mathlib.Core.Path.{_≡_}
-use mathlib.Core.Bool.{false}
+use mathlib.Core.Bool.{true, false}
 use mathlib.Core.List.{List, [], _∷_, _++_}
 use mathlib.Core.Option.{some}
 use lib.ListN.{length, getD}
 use lib.IntN.{pos}
+use Rattle.format.specs.Container.{wellFormed}
 use Rattle.format.specs.Layout.{dataOf}
-use Rattle.octets.specs.Facts.{Each}
+use Rattle.octets.specs.Facts.{Each, Octets}
 use Rattle.rules.specs.Requests.{Test, Write, testWrite, requestOf}
 use Rattle.rules.specs.Testing.{piece}
 use Rattle.rules.specs.Changes.{Change, writesAt, byteAfter}
@@ -58,3 +59,8 @@ pub record Incident (b node enabler : List ℕ) : Type 0 where
   pub forgets : createOutcome b node enabler ≡ 0 → (before : List Call) (x : Call) (after : List Call) (m : ℕ) →
       Cuts x (final leaves before (createdContainer b node enabler)) m →
       Forgets (createdContainer b node enabler) before x after m
+
+-- Nor in one from any well-formed container made of bytes (D4).
+pub record IncidentInUse (c : List ℕ) : Type 0 where
+  pub forgets : wellFormed c ≡ true → Octets c → (before : List Call) (x : Call) (after : List Call) (m : ℕ) →
+      Cuts x (final leaves before c) m → Forgets c before x after m

@@ -42,9 +42,13 @@ unfoldable pub says : ℕ → Change → Option ℕ
 says i (wrote at bs) = cond (covers at (length bs) i) (some (getD bs (i - at) 0)) none
 says i (cutAt m) = cond (leb m i) (some 0) none
 
--- The byte at a position: what the last change that says anything says, otherwise zero (H12).
+-- The byte at a position: what the last change that says anything says, otherwise the byte b that was there (H12, H14).
+unfoldable pub byteOver : List Change → ℕ → ℕ → ℕ
+byteOver os i b = orElse (lastSaid (says i) os) b
+
+-- On data that begins empty the byte that was there is zero (H12).
 unfoldable pub byteAfter : List Change → ℕ → ℕ
-byteAfter os i = orElse (lastSaid (says i) os) 0
+byteAfter os i = byteOver os i 0
 
 -- A request's changes on data of a size: its writes in order, then its cut (H10).
 unfoldable pub cutChange : Option ℕ → List Change
