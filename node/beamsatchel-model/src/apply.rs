@@ -67,12 +67,15 @@ fn test_and_write(container: &mut Container, request: &TestAndWrite, reply: &mut
         reply[..answered.len()].copy_from_slice(&answered);
         return Answer::test_false(answered.len());
     }
-    // 11: no room for the final size; sizes on the way there do not count.
+    // The count stays where it is, unless the final data reaches past it; sizes on the way there do not count.
     let size = final_size(container.data.len() as u64, &request.writes, request.cut);
-    if used(size, container.extras()) > container.length as u64 {
+    let count = container.count().max(468 + size);
+    // 11: no room for that.
+    if used(count, container.extras()) > container.length as u64 {
         return Answer::refused(11);
     }
     container.data = written(&container.data, &request.writes, size as usize);
+    container.slack = (count - 468 - size) as usize;
     reply[..answered.len()].copy_from_slice(&answered);
     Answer::done(answered.len())
 }

@@ -50,6 +50,8 @@ pub struct Container {
     pub node: [u8; 20],
     pub enabler: [u8; 32],
     pub data: Vec<u8>,
+    /// How many zeros stand between the data and the count.
+    pub slack: usize,
     /// The four places, then the extras. An empty place is `None`.
     pub places: Vec<Option<Lease>>,
 }
@@ -65,26 +67,31 @@ impl Container {
         if buffer[..32] != MAGIC {
             return None;
         }
-        // The offset field names the end of data, as a number: a sum does not wrap.
+        // The offset field names the end of data or a place behind it, as a number: a sum does not wrap.
         let length = buffer.len() as u128;
         let size = u128::from(u64_at(buffer, 84));
-        if u128::from(u64_at(buffer, 92)) != 468 + size {
+        let count = u128::from(u64_at(buffer, 92));
+        if count < 468 + size {
             return None;
         }
         // The used length fits the buffer: whatever e is, the count itself must lie inside.
-        if 472 + size > length {
+        if count + 4 > length {
             return None;
         }
-        let end = 468 + size as usize;
+        let (data_end, count) = (468 + size as usize, count as usize);
         // There are no more than 60 extras, and they fit as well.
-        let extras = u128::from(u32_at(buffer, end));
-        if extras > 60 || 472 + size + 92 * extras > length {
+        let extras = u32_at(buffer, count) as usize;
+        if extras > 60 || count + 4 + 92 * extras > buffer.len() {
             return None;
         }
-        let used = end + 4 + 92 * extras as usize;
+        let used = count + 4 + 92 * extras;
+        // The slack is zero.
+        if !all_zero(&buffer[data_end..count]) {
+            return None;
+        }
         // A record without owner is all zeros, in the four places and in the extras.
         let mut places = Vec::new();
-        for record in [&buffer[100..468], &buffer[end + 4..used]]
+        for record in [&buffer[100..468], &buffer[count + 4..used]]
             .iter()
             .flat_map(|records| records.chunks(92))
         {
@@ -109,7 +116,8 @@ impl Container {
             length: buffer.len(),
             node: array_at(buffer, 32),
             enabler: array_at(buffer, 52),
-            data: buffer[468..end].to_vec(),
+            data: buffer[468..data_end].to_vec(),
+            slack: count - data_end,
             places,
         })
     }
@@ -123,11 +131,12 @@ impl Container {
         buffer.extend(self.node);
         buffer.extend(self.enabler);
         buffer.extend(size.to_be_bytes());
-        buffer.extend((468 + size).to_be_bytes());
+        buffer.extend(self.count().to_be_bytes());
         self.places[..4]
             .iter()
             .for_each(|place| buffer.extend(record(place)));
         buffer.extend(&self.data);
+        buffer.extend(vec![0; self.slack]);
         buffer.extend((self.extras() as u32).to_be_bytes());
         self.places[4..]
             .iter()
@@ -146,13 +155,18 @@ impl Container {
         self.places.iter().flatten()
     }
 
-    /// The used length, 472+s+92e.
+    /// Where the count stands: behind the data and the slack.
+    pub fn count(&self) -> u64 {
+        468 + self.data.len() as u64 + self.slack as u64
+    }
+
+    /// The used length.
     pub fn used(&self) -> u64 {
-        used(self.data.len() as u64, self.extras())
+        used(self.count(), self.extras())
     }
 }
 
-/// The used length with `size` data bytes and `extras` extra places.
-pub fn used(size: u64, extras: usize) -> u64 {
-    472 + size + 92 * extras as u64
+/// The used length with the count at a place and `extras` extra places behind it.
+pub fn used(count: u64, extras: usize) -> u64 {
+    count + 4 + 92 * extras as u64
 }

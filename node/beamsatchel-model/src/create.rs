@@ -16,12 +16,13 @@ pub fn create(buffer: &mut [u8], node: &[u8], enabler: &[u8]) -> Answer {
     if buffer.starts_with(&MAGIC) {
         return Answer::refused(12);
     }
-    // No data, no leases, no extras, and zeros for the rest.
+    // No data, no slack, no leases, no extras, and zeros for the rest.
     let fresh = Container {
         length: buffer.len(),
         node,
         enabler,
         data: Vec::new(),
+        slack: 0,
         places: vec![None; 4],
     };
     buffer.copy_from_slice(&fresh.to_bytes());

@@ -32,43 +32,41 @@ pub fn test_and_write(buffer: &mut [u8], frame: Frame, request: &[u8], reply: &m
         return Answer::test_false(reply_length);
     }
     let (final_size, last_gap) = parts.final_size(frame.size);
+    let size = match final_size {
+        size if size > buffer.len() as u64 => return Answer::refused(11),
+        size => size as usize,
+    };
     let after = Frame {
-        size: match final_size {
-            size if size > buffer.len() as u64 => return Answer::refused(11),
-            size => size as usize,
-        },
+        size,
+        count: frame.count.max(468 + size),
         ..frame
     };
     if after.used() > buffer.len() {
         return Answer::refused(11);
     }
     write_reply(data, parts.tests, TEST, reply);
-    if after.size > frame.size {
+    if after.count > frame.count {
         let bare = last_gap.min(final_size) as usize;
-        resize(buffer, frame, after, bare);
-        parts.write(&mut buffer[468..468 + after.size]);
-    } else {
-        parts.write(&mut buffer[468..468 + after.size]);
-        resize(buffer, frame, after, 0);
+        move_count(buffer, frame, after, bare);
+    }
+    parts.write(&mut buffer[468..468 + size]);
+    if size < frame.size {
+        buffer[468 + size..468 + frame.size].fill(0);
+    }
+    if size != frame.size {
+        buffer[84..92].copy_from_slice(&(size as u64).to_be_bytes());
     }
     Answer::done(reply_length)
 }
 
-/// Moves count and extras to the new end of data, with zeros where they leave bytes, or uncover some
-/// below `bare`: the writes fill the others.
-fn resize(buffer: &mut [u8], before: Frame, after: Frame, bare: usize) {
-    let (old_end, new_end) = (468 + before.size, 468 + after.size);
-    if old_end == new_end {
-        return;
+/// Moves count and extras to the new end of data, with zeros where they uncover bytes below `bare`:
+/// the slack is zero already, and the writes fill the others.
+fn move_count(buffer: &mut [u8], before: Frame, after: Frame, bare: usize) {
+    buffer.copy_within(before.count..before.used(), after.count);
+    if before.count < 468 + bare {
+        buffer[before.count..468 + bare].fill(0);
     }
-    buffer.copy_within(old_end..before.used(), new_end);
-    if new_end > old_end {
-        buffer[old_end..468 + bare].fill(0);
-    } else {
-        buffer[after.used()..before.used()].fill(0);
-    }
-    buffer[84..92].copy_from_slice(&(after.size as u64).to_be_bytes());
-    buffer[92..100].copy_from_slice(&(new_end as u64).to_be_bytes());
+    buffer[92..100].copy_from_slice(&(after.count as u64).to_be_bytes());
 }
 
 pub fn read(buffer: &[u8], frame: Frame, request: &[u8], reply: &mut [u8]) -> Answer {

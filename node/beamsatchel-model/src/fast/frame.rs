@@ -5,6 +5,8 @@ use crate::MAGIC;
 #[derive(Clone, Copy)]
 pub struct Frame {
     pub size: usize,
+    /// Where the count stands.
+    pub count: usize,
     pub extras: usize,
 }
 
@@ -14,19 +16,23 @@ impl Frame {
         if buffer[..32] != MAGIC {
             return None;
         }
-        // With the size below the length no sum can wrap.
-        let size = u64_at(buffer, 84);
-        if size > (buffer.len() - 472) as u64 || u64_at(buffer, 92) != 468 + size {
+        // With the count inside the buffer, and the size below it, no sum can wrap.
+        let (size, count) = (u64_at(buffer, 84), u64_at(buffer, 92));
+        if count > (buffer.len() - 4) as u64 || size > count || 468 + size > count {
             return None;
         }
-        let size = size as usize;
-        let extras = u32_at(buffer, 468 + size) as usize;
+        let (size, count) = (size as usize, count as usize);
+        let extras = u32_at(buffer, count) as usize;
         if extras > 60 {
             return None;
         }
-        let frame = Frame { size, extras };
+        let frame = Frame {
+            size,
+            count,
+            extras,
+        };
         let used = frame.used();
-        if used > buffer.len() {
+        if used > buffer.len() || !all_zero(&buffer[468 + size..count]) {
             return None;
         }
         for place in 0..frame.places() {
@@ -42,7 +48,7 @@ impl Frame {
     }
 
     pub fn used(&self) -> usize {
-        472 + self.size + 92 * self.extras
+        self.count + 4 + 92 * self.extras
     }
 
     /// The number of places, the four and the extras.
@@ -54,7 +60,7 @@ impl Frame {
     pub fn record(&self, place: usize) -> usize {
         match place {
             0..4 => 100 + 92 * place,
-            _ => 472 + self.size + 92 * (place - 4),
+            _ => self.count + 4 + 92 * (place - 4),
         }
     }
 

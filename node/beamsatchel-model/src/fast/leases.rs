@@ -83,5 +83,5 @@ fn keep_later(buffer: &mut [u8], at: usize, expiry: u32) {
 }
 
 fn set_extras(buffer: &mut [u8], frame: Frame, extras: usize) {
-    buffer[468 + frame.size..][..4].copy_from_slice(&(extras as u32).to_be_bytes());
+    buffer[frame.count..][..4].copy_from_slice(&(extras as u32).to_be_bytes());
 }

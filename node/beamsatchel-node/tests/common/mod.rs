@@ -63,6 +63,14 @@ pub fn slot(length: usize, data: &[u8]) -> Vec<u8> {
     slot.into_buffer()
 }
 
+/// The bytes of a container after a cut, which leaves slack.
+pub fn cut(bytes: Vec<u8>, new_length: u32) -> Vec<u8> {
+    let mut slot = Container::adopt(bytes);
+    let request = TestAndWrite::new(ENABLER).cut(new_length);
+    assert!(slot.test_and_write(&request, &mut []).unwrap().is_done());
+    slot.into_buffer()
+}
+
 /// Where the parts of [`share`] begin, and where the last one ends.
 pub const BOUNDS: [usize; 7] = [107, 112, 119, 255, 287, 544, 555];
 

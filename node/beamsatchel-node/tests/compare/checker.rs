@@ -4,6 +4,7 @@ use crate::case::Case;
 use crate::common::modelled;
 use crate::looks::Look;
 use crate::shapes::Shape;
+use crate::slacks::Slack;
 use crate::tally::{Call, Tally};
 use crate::touches::Touch;
 use beamsatchel_model::{self as model, Request, WrittenShare};
@@ -50,6 +51,8 @@ impl Checker {
             .looks(call, Look::of_case(&before, answer.number));
         self.tally
             .touches(Touch::of_case(&before, answer.number, case));
+        self.tally
+            .slacks(Slack::of_case(&before, answer.number, case));
         answer
     }
 
@@ -101,6 +104,8 @@ impl Checker {
         );
         let call = Call::ShareInContainer;
         self.tally.outcome(call, checked.number, || hex(container));
+        self.tally
+            .slacks(Slack::of_share(container, checked.number));
         checked.number
     }
 
@@ -253,6 +258,7 @@ fn compare_view(container: &[u8], answer: &model::Answer) {
             assert_eq!(view.node_id().0, parts.node);
             assert_eq!(*view.write_enabler().expose(), parts.enabler);
             assert_eq!(view.data(), parts.data);
+            assert_eq!(view.slack_len(), parts.slack);
             assert_eq!(view.used_len() as u64, parts.used());
             let mut slots = vec![None; 4 + view.extra_places()];
             for (slot, lease) in view.leases() {

@@ -37,6 +37,19 @@ pub fn expiry(rng: &mut Rng) -> u32 {
     }
 }
 
+/// How a container is to be laid out.
+#[derive(Clone, Copy)]
+pub struct Sizes {
+    /// Bytes of data.
+    pub data: usize,
+    /// Zeros between the data and the count.
+    pub slack: usize,
+    /// Extra places.
+    pub extras: usize,
+    /// Bytes behind the extras, as far as the longest buffer has them.
+    pub room: usize,
+}
+
 /// A well-formed container of any sort: mostly small, now and then long or with many leases.
 pub fn any(rng: &mut Rng) -> Container {
     let extras = match rng.below(100) {
@@ -45,7 +58,7 @@ pub fn any(rng: &mut Rng) -> Container {
         92..97 => rng.within(4..=59),
         _ => 60,
     };
-    let size = match rng.below(1000) {
+    let data = match rng.below(1000) {
         0..150 => 0,
         150..600 => rng.within(1..=20),
         600..995 => rng.within(1..=400),
@@ -56,19 +69,36 @@ pub fn any(rng: &mut Rng) -> Container {
         50..99 => rng.within(0..=400),
         _ => MAX_LENGTH,
     };
+    let slack = slack(rng).min(MAX_LENGTH - 472 - data - 92 * extras);
     let empty_percent = rng.pick(&[0, 0, 30, 60]);
-    with(rng, size, extras, room, empty_percent)
+    let sizes = Sizes {
+        data,
+        slack,
+        extras,
+        room,
+    };
+    with(rng, sizes, empty_percent)
 }
 
-/// A container with so much data, so many extra places, so much room (where the longest buffer
-/// has it), and about so many empty places of a hundred.
-pub fn with(
-    rng: &mut Rng,
-    size: usize,
-    extras: usize,
-    room: usize,
-    empty_percent: usize,
-) -> Container {
+/// None, little, as much as a lease or two take, or more.
+pub fn slack(rng: &mut Rng) -> usize {
+    match rng.below(100) {
+        0..40 => 0,
+        40..70 => rng.within(1..=10),
+        70..80 => rng.pick(&[91, 92, 93, 184]),
+        80..99 => rng.within(1..=400),
+        _ => rng.within(400..=MAX_LENGTH),
+    }
+}
+
+/// A container with such sizes, and about so many empty places of a hundred.
+pub fn with(rng: &mut Rng, sizes: Sizes, empty_percent: usize) -> Container {
+    let Sizes {
+        data,
+        slack,
+        extras,
+        room,
+    } = sizes;
     let mut places: Vec<Option<Lease>> = (0..4 + extras)
         .map(|_| (!rng.chance(empty_percent)).then(|| lease(rng)))
         .collect();
@@ -80,17 +110,20 @@ pub fn with(
         places[last] = Some(lease(rng));
     }
     Container {
-        length: MAX_LENGTH.min(472 + size + 92 * extras + room),
+        length: MAX_LENGTH.min(472 + data + slack + 92 * extras + room),
         node: rng.array(),
         enabler: rng.pick(&[[0xEE; 32], [0; 32]]),
-        data: rng.letters(size),
+        data: rng.letters(data),
+        slack,
         places,
     }
 }
 
-/// A container with `leases` leases, each with tokens of its own, in places without gaps.
-pub fn with_own_tokens(rng: &mut Rng, leases: usize, size: usize, room: usize) -> Container {
-    let mut container = with(rng, size, leases.saturating_sub(4), room, 0);
+/// A container with `leases` leases, each with tokens of its own, in places without gaps, and otherwise with such
+/// sizes.
+pub fn with_own_tokens(rng: &mut Rng, leases: usize, sizes: Sizes) -> Container {
+    let extras = leases.saturating_sub(4);
+    let mut container = with(rng, Sizes { extras, ..sizes }, 0);
     for (slot, place) in container.places.iter_mut().enumerate() {
         *place = (slot < leases).then(|| Lease {
             renewal: own_token(slot),
@@ -119,17 +152,32 @@ pub fn damaged(rng: &mut Rng, container: &Container) -> Vec<u8> {
     }
 }
 
+/// The bytes of a container that has slack and is not well formed for the place of its count, or for a byte of the
+/// slack.
+pub fn with_bad_slack(rng: &mut Rng, container: &Container) -> Vec<u8> {
+    loop {
+        let mut bytes = container.to_bytes();
+        match rng.chance(50) {
+            true => damage_offset(rng, container, &mut bytes),
+            false => damage_slack(rng, container, &mut bytes),
+        }
+        if Container::from_bytes(&bytes).is_none() {
+            return bytes;
+        }
+    }
+}
+
 /// Breaks a clause of what is well formed, where the container allows.
 fn damage(rng: &mut Rng, container: &Container, bytes: &mut [u8]) {
     let size = container.data.len();
-    let count = 468 + size;
+    let count = container.count() as usize;
     let used = container.used() as usize;
     let slot = rng.below(container.places.len());
     let record = match slot {
         0..4 => 100 + 92 * slot,
         _ => count + 4 + 92 * (slot - 4),
     };
-    match rng.below(9) {
+    match rng.below(12) {
         // the magic
         0 => bytes[rng.below(32)] ^= 1 << rng.below(8),
         // the offset field alone
@@ -169,9 +217,36 @@ fn damage(rng: &mut Rng, container: &Container, bytes: &mut [u8]) {
             let at = rng.pick(&[used, bytes.len() - 1, anywhere]);
             bytes[at] = rng.not_zero();
         }
+        8 | 9 => damage_offset(rng, container, bytes),
+        10 if container.slack > 0 => damage_slack(rng, container, bytes),
         // the whole
         _ => bytes.copy_from_slice(&rng.bytes(bytes.len())),
     }
+}
+
+/// Sets the offset field before the data's end, where count and extras do not fit, or where they would wrap.
+fn damage_offset(rng: &mut Rng, container: &Container, bytes: &mut [u8]) {
+    let data_end = 468 + container.data.len() as u64;
+    let length = bytes.len() as u64;
+    let behind = container.used() - container.count();
+    let before = rng.below(data_end as usize) as u64;
+    let wrong = rng.pick(&[
+        data_end - 1,
+        before,
+        length + 1 - behind,
+        length - 3,
+        0_u64.wrapping_sub(4),
+        0_u64.wrapping_sub(behind),
+        u64::MAX,
+    ]);
+    bytes[92..100].copy_from_slice(&wrong.to_be_bytes());
+}
+
+/// Sets a byte of the slack, of which there is some.
+fn damage_slack(rng: &mut Rng, container: &Container, bytes: &mut [u8]) {
+    let (first, last) = (468 + container.data.len(), container.count() as usize - 1);
+    let anywhere = rng.within(first..=last);
+    bytes[rng.pick(&[first, last, anywhere])] = rng.not_zero();
 }
 
 /// The bytes of a container whose length is not allowed: cut short, or longer than the longest

@@ -3,7 +3,7 @@
 use crate::checker::Checker;
 use crate::containers;
 use crate::rng::Rng;
-use crate::tally::Call;
+use crate::tally::{Beside, Call};
 use beamsatchel_model::MAGIC;
 
 pub fn run(cases: u64, rng: &mut Rng, checker: &mut Checker) {
@@ -18,7 +18,7 @@ pub fn run(cases: u64, rng: &mut Rng, checker: &mut Checker) {
             assert_eq!(create(&[low], &mut again.clone(), checker), low);
             assert_eq!(create(&[high], &mut again.clone(), checker), high);
             assert_eq!(create(&[low, high], &mut again, checker), low);
-            checker.tally.pair(Call::Create, pair);
+            checker.tally.pair(Call::Create, Beside::NoSlack, pair);
             *rng = again;
         }
     }

@@ -1,5 +1,6 @@
 //! Whole histories: thousands of requests on one container, each finding what the one before
-//! left, and at the end every data byte as Histories in docs/RULES.md tells it.
+//! left, and at the end every data byte as Histories in docs/RULES.md tells it, and the count where
+//! the longest data ended.
 
 use crate::case::Case;
 use crate::checker::Checker;
@@ -23,12 +24,21 @@ pub fn run(cases: u64, rng: &mut Rng, checker: &mut Checker) {
             let mut case = next_request(rng, container, requests::any);
             let answer = checker.apply(&mut case);
             if answer.number == 0 && case.request[0] == 1 {
-                accepted.push(case.request.clone());
+                accepted.push(test_and_write(&case.request));
             }
             container = case.container;
         }
         let parts = Container::from_bytes(&container).expect("well formed");
         assert_eq!(parts.data, data_of(&accepted), "data after a history");
+        let longest = sizes(&accepted).max().unwrap_or(0);
+        assert_eq!(parts.count(), 468 + longest, "the count after a history");
+    }
+}
+
+fn test_and_write(request: &[u8]) -> TestAndWrite {
+    match Request::from_bytes(request) {
+        Some(Request::TestAndWrite(request)) => request,
+        other => panic!("accepted as a test-and-write: {other:?}"),
     }
 }
 
@@ -59,28 +69,27 @@ pub fn next_request(
     }
 }
 
-/// The data after a history, from its accepted test-and-writes alone: their writes raise the size
-/// and their cuts lower it, and a byte is what was written there last, unless a later cut took it.
-fn data_of(accepted: &[Vec<u8>]) -> Vec<u8> {
-    let accepted: Vec<TestAndWrite> = accepted
-        .iter()
-        .map(|request| match Request::from_bytes(request) {
-            Some(Request::TestAndWrite(request)) => request,
-            other => panic!("accepted as a test-and-write: {other:?}"),
-        })
-        .collect();
-    let size = accepted.iter().fold(0, |size, request| {
+/// The data after a history, from its accepted test-and-writes alone: a byte is what was written
+/// there last, unless a later cut took it.
+fn data_of(accepted: &[TestAndWrite]) -> Vec<u8> {
+    let size = sizes(accepted).last().unwrap_or(0);
+    (0..size as usize)
+        .map(|position| byte_at(position, accepted))
+        .collect()
+}
+
+/// The size after each accepted test-and-write: its writes raise it, and its cut lowers it.
+fn sizes(accepted: &[TestAndWrite]) -> impl Iterator<Item = u64> + '_ {
+    accepted.iter().scan(0, |size, request| {
         let raised = request
             .writes
             .iter()
             .filter(|write| !write.data.is_empty())
             .map(|write| write.offset as u64 + write.data.len() as u64)
-            .fold(size, u64::max);
-        request.cut.map_or(raised, |cut| raised.min(u64::from(cut)))
-    });
-    (0..size as usize)
-        .map(|position| byte_at(position, &accepted))
-        .collect()
+            .fold(*size, u64::max);
+        *size = request.cut.map_or(raised, |cut| raised.min(u64::from(cut)));
+        Some(*size)
+    })
 }
 
 /// Looks for the byte from the last request back; a request's cut follows its writes.

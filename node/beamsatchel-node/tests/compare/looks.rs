@@ -13,6 +13,10 @@ pub enum Look {
     AcrossTheEnd,
     AtTheEnd,
     PastTheEnd,
+    /// From the data across its end, where slack stands.
+    IntoTheSlack,
+    /// At or past the data's end, where slack stands.
+    InTheSlack,
     /// Length 0.
     NothingInside,
     NothingAtTheEnd,
@@ -24,12 +28,14 @@ pub enum Look {
 }
 
 impl Look {
-    pub const ALL: [Look; 10] = [
+    pub const ALL: [Look; 12] = [
         Look::Inside,
         Look::UpToTheEnd,
         Look::AcrossTheEnd,
         Look::AtTheEnd,
         Look::PastTheEnd,
+        Look::IntoTheSlack,
+        Look::InTheSlack,
         Look::NothingInside,
         Look::NothingAtTheEnd,
         Look::NothingPastTheEnd,
@@ -51,6 +57,17 @@ impl Look {
             (_, _, Ordering::Equal) => Look::UpToTheEnd,
             (_, _, Ordering::Greater) => Look::AcrossTheEnd,
         }
+    }
+
+    /// What an entry asks of the slack.
+    fn beside_slack(offset: i32, length: u32, container: &Container) -> Option<Look> {
+        let (start, size) = (offset as usize, container.data.len());
+        let end = start + length as usize;
+        if start < size && size < end && container.slack > 0 {
+            return Some(Look::IntoTheSlack);
+        }
+        let slack = size..size + container.slack;
+        (slack.contains(&start) && start < end).then_some(Look::InTheSlack)
     }
 
     fn is_short(&self) -> bool {
@@ -82,7 +99,13 @@ impl Look {
         match number {
             0 | 8 => {
                 let fits = case.reply.len() == needed && looks.clone().any(|look| look.is_short());
-                looks.chain(fits.then_some(Look::ShortFits)).collect()
+                let beside_slack = entries
+                    .iter()
+                    .filter_map(|entry| Look::beside_slack(entry.0, entry.1, &container));
+                looks
+                    .chain(beside_slack)
+                    .chain(fits.then_some(Look::ShortFits))
+                    .collect()
             }
             7 if case.reply.len() + 1 == needed && looks.clone().any(|look| look.is_short()) => {
                 vec![Look::ShortLacksAByte]

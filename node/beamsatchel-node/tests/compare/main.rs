@@ -3,10 +3,11 @@
 //!
 //! `BEAMSATCHEL_SEED` sets another seed, `BEAMSATCHEL_CASES` a longer run. The run prints how
 //! often each outcome and each pair of outcomes was met, where tests and reads looked, what
-//! test-and-writes touched, and of which shapes shares to be written were; it fails where a
-//! possible one was not met, and at once where an impossible outcome is or a byte changed that a
-//! test-and-write leaves alone.
+//! test-and-writes touched, where the count stood, and of which shapes shares to be written were;
+//! it fails where a possible one was not met, and at once where an impossible outcome is or a byte
+//! changed that a test-and-write leaves alone.
 
+mod apart;
 mod case;
 mod checker;
 #[path = "../common/mod.rs"]
@@ -25,6 +26,7 @@ mod shapes;
 mod share_pairs;
 mod shares;
 mod singles;
+mod slacks;
 mod tally;
 mod touches;
 mod woven;
@@ -79,6 +81,9 @@ fn main() {
     });
     section("woven histories", &|rng, checker| {
         woven::run(cases / 5, rng, checker)
+    });
+    section("slack apart", &|rng, checker| {
+        apart::run(cases / 10, rng, checker)
     });
     section("single requests", &|rng, checker| {
         singles::run(cases.saturating_sub(checker.tally.cases), rng, checker)

@@ -6,7 +6,7 @@ use crate::checker::Checker;
 use crate::new_shares::Case;
 use crate::rng::Rng;
 use crate::shares::{node_numbers, Draft};
-use crate::tally::Call;
+use crate::tally::{Beside, Call};
 
 pub fn run(rounds: u64, rng: &mut Rng, checker: &mut Checker) {
     for pair @ (low, high) in Call::WriteShare.pairs() {
@@ -15,7 +15,7 @@ pub fn run(rounds: u64, rng: &mut Rng, checker: &mut Checker) {
                 let met = case(flaws, rng).run(rng, checker);
                 assert_eq!(met, number, "a new share with flaws {flaws:?}");
             }
-            checker.tally.pair(Call::WriteShare, pair);
+            checker.tally.pair(Call::WriteShare, Beside::NoSlack, pair);
         }
     }
 }

@@ -3,9 +3,10 @@
 
 use crate::case::Case;
 use crate::checker::Checker;
+use crate::containers::{self, Sizes};
+use crate::requests;
 use crate::rng::Rng;
-use crate::tally::Call;
-use crate::{containers, requests};
+use crate::tally::{Beside, Call};
 use beamsatchel_model::{Container, Lease, Read, Request, Test, TestAndWrite, Write};
 
 const CALLS: [Call; 6] = [
@@ -20,25 +21,29 @@ const CALLS: [Call; 6] = [
 pub fn run(rounds: u64, rng: &mut Rng, checker: &mut Checker) {
     for call in CALLS {
         for pair @ (low, high) in call.pairs() {
-            for _ in 0..rounds.max(10) {
-                for (flaws, number) in [(&[low][..], low), (&[high], high), (&[low, high], low)] {
-                    let answer = checker.apply(&mut case(call, flaws, rng));
-                    assert_eq!(answer.number, number, "{call:?} with flaws {flaws:?}");
+            for &slack in call.slacks() {
+                for _ in 0..(rounds / 2).max(10) {
+                    for (flaws, number) in [(&[low][..], low), (&[high], high), (&[low, high], low)]
+                    {
+                        let answer = checker.apply(&mut case(call, flaws, slack, rng));
+                        assert_eq!(answer.number, number, "{call:?} with flaws {flaws:?}");
+                    }
+                    checker.tally.pair(call, slack, pair);
                 }
-                checker.tally.pair(call, pair);
             }
         }
     }
 }
 
 /// A case of a call with exactly these flaws, each named by its outcome.
-fn case(call: Call, flaws: &[u32], rng: &mut Rng) -> Case {
+fn case(call: Call, flaws: &[u32], slack: Beside, rng: &mut Rng) -> Case {
     let has = |flaw| flaws.contains(&flaw);
+    let slack = slack.some(rng);
     let (container, request) = match call {
-        Call::TestAndWrite => test_and_write(&has, rng),
-        Call::Add => add(&has, rng),
-        Call::Renew | Call::Cancel => renew_or_cancel(call, &has, rng),
-        _ => read(&has, rng),
+        Call::TestAndWrite => test_and_write(&has, slack, rng),
+        Call::Add => add(&has, slack, rng),
+        Call::Renew | Call::Cancel => renew_or_cancel(call, &has, slack, rng),
+        _ => read(&has, slack, rng),
     };
     let needed = requests::reply_length(&request, &container);
     let space = if has(7) {
@@ -58,10 +63,11 @@ fn case(call: Call, flaws: &[u32], rng: &mut Rng) -> Case {
     }
 }
 
-/// The container's bytes with flaws 1 and 2 where they are wanted.
+/// The container's bytes with flaws 1 and 2 where they are wanted; beside slack, 2 is for the slack.
 fn container_bytes(has: &dyn Fn(u32) -> bool, container: &Container, rng: &mut Rng) -> Vec<u8> {
     match (has(1), has(2)) {
         (false, false) => container.to_bytes(),
+        (false, true) if container.slack > 0 => containers::with_bad_slack(rng, container),
         (false, true) => containers::damaged(rng, container),
         (true, false) => containers::of_wrong_length(rng, container),
         (true, true) => {
@@ -72,15 +78,20 @@ fn container_bytes(has: &dyn Fn(u32) -> bool, container: &Container, rng: &mut R
     }
 }
 
-fn small_container(rng: &mut Rng) -> Container {
-    let (size, extras, room) = (rng.below(60), rng.below(3), rng.within(30..=100));
-    containers::with(rng, size, extras, room, 20)
+fn small_container(slack: usize, rng: &mut Rng) -> Container {
+    let sizes = Sizes {
+        data: rng.below(60),
+        slack,
+        extras: rng.below(3),
+        room: rng.within(30..=100),
+    };
+    containers::with(rng, sizes, 20)
 }
 
-fn test_and_write(has: &dyn Fn(u32) -> bool, rng: &mut Rng) -> (Container, Request) {
-    let container = small_container(rng);
+fn test_and_write(has: &dyn Fn(u32) -> bool, slack: usize, rng: &mut Rng) -> (Container, Request) {
+    let container = small_container(slack, rng);
     let size = container.data.len();
-    let room = container.length - container.used() as usize;
+    let room = slack + container.length - container.used() as usize;
     let mut enabler = container.enabler;
     if has(5) {
         enabler[rng.below(32)] ^= 1 << rng.below(8);
@@ -139,7 +150,7 @@ fn test_and_write(has: &dyn Fn(u32) -> bool, rng: &mut Rng) -> (Container, Reque
     (container, Request::TestAndWrite(request))
 }
 
-fn add(has: &dyn Fn(u32) -> bool, rng: &mut Rng) -> (Container, Request) {
+fn add(has: &dyn Fn(u32) -> bool, slack: usize, rng: &mut Rng) -> (Container, Request) {
     // 10 needs all 64 leases; 11 needs all places taken and no room for another extra.
     let leases = match (has(10), has(11)) {
         (true, _) => 64,
@@ -151,8 +162,7 @@ fn add(has: &dyn Fn(u32) -> bool, rng: &mut Rng) -> (Container, Request) {
     } else {
         rng.within(92..=200)
     };
-    let size = rng.below(60);
-    let container = containers::with_own_tokens(rng, leases, size, room);
+    let container = leased(leases, slack, room, rng);
     let request = Request::Add(Lease {
         renewal: containers::own_token(255),
         ..containers::lease(rng)
@@ -160,10 +170,26 @@ fn add(has: &dyn Fn(u32) -> bool, rng: &mut Rng) -> (Container, Request) {
     (container, request)
 }
 
-fn renew_or_cancel(call: Call, has: &dyn Fn(u32) -> bool, rng: &mut Rng) -> (Container, Request) {
+/// A container with so many leases, each with tokens of its own.
+fn leased(leases: usize, slack: usize, room: usize, rng: &mut Rng) -> Container {
+    let sizes = Sizes {
+        data: rng.below(60),
+        slack,
+        extras: 0,
+        room,
+    };
+    containers::with_own_tokens(rng, leases, sizes)
+}
+
+fn renew_or_cancel(
+    call: Call,
+    has: &dyn Fn(u32) -> bool,
+    slack: usize,
+    rng: &mut Rng,
+) -> (Container, Request) {
     let leases = rng.within(1..=10);
-    let (size, room) = (rng.below(60), rng.below(100));
-    let container = containers::with_own_tokens(rng, leases, size, room);
+    let room = rng.below(100);
+    let container = leased(leases, slack, room, rng);
     let slot = rng.below(leases);
     let request = match (call, has(9)) {
         (Call::Renew, false) => Request::Renew {
@@ -185,8 +211,8 @@ fn renew_or_cancel(call: Call, has: &dyn Fn(u32) -> bool, rng: &mut Rng) -> (Con
     (container, request)
 }
 
-fn read(has: &dyn Fn(u32) -> bool, rng: &mut Rng) -> (Container, Request) {
-    let container = small_container(rng);
+fn read(has: &dyn Fn(u32) -> bool, slack: usize, rng: &mut Rng) -> (Container, Request) {
+    let container = small_container(slack, rng);
     let size = container.data.len();
     let start = rng.below(size + 1);
     // Inside the data or up to its end, and across the end or past it: neither is a flaw.

@@ -5,28 +5,35 @@ use crate::checker::Checker;
 use crate::containers;
 use crate::rng::Rng;
 use crate::shares::{container_with, node_numbers, Draft};
-use crate::tally::Call;
+use crate::tally::{Beside, Call};
 
 pub fn run(rounds: u64, rng: &mut Rng, checker: &mut Checker) {
     for call in [Call::BareShare, Call::ShareInContainer] {
         for pair @ (low, high) in call.pairs() {
-            for _ in 0..rounds.max(10) {
-                for (flaws, number) in [(&[low][..], low), (&[high], high), (&[low, high], low)] {
-                    let checked = check(call, flaws, rng, checker);
-                    assert_eq!(checked, number, "{call:?} with flaws {flaws:?}");
+            for &slack in call.slacks() {
+                for _ in 0..rounds.max(10) {
+                    for (flaws, number) in [(&[low][..], low), (&[high], high), (&[low, high], low)]
+                    {
+                        let checked = check(call, flaws, slack, rng, checker);
+                        assert_eq!(checked, number, "{call:?} with flaws {flaws:?}");
+                    }
+                    checker.tally.pair(call, slack, pair);
                 }
-                checker.tally.pair(call, pair);
             }
         }
     }
 }
 
-fn check(call: Call, flaws: &[u32], rng: &mut Rng, checker: &mut Checker) -> u32 {
+fn check(call: Call, flaws: &[u32], slack: Beside, rng: &mut Rng, checker: &mut Checker) -> u32 {
     let share = share(flaws, rng);
     if call == Call::BareShare {
         return checker.share(&share);
     }
-    let container = container_with(rng, share);
+    let slack = slack.some(rng);
+    let container = container_with(rng, share, slack);
+    if slack > 0 && flaws.contains(&2) && !flaws.contains(&1) {
+        return checker.share_in_container(&containers::with_bad_slack(rng, &container));
+    }
     let mut bytes = match flaws.contains(&1) {
         true => containers::of_wrong_length(rng, &container),
         false => container.to_bytes(),

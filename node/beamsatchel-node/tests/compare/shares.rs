@@ -1,7 +1,7 @@
 //! Shares: valid and damaged in each way, bare and inside containers.
 
 use crate::checker::Checker;
-use crate::containers;
+use crate::containers::{self, Sizes};
 use crate::rng::Rng;
 use beamsatchel_model::{Container, MAGIC};
 
@@ -119,12 +119,19 @@ pub fn node_numbers(rng: &mut Rng, n: usize) -> Vec<u16> {
         .collect()
 }
 
-/// A container whose data is these bytes, with leases and room.
-pub fn container_with(rng: &mut Rng, data: Vec<u8>) -> Container {
+/// A container whose data is these bytes, with so much slack, and with leases and room.
+pub fn container_with(rng: &mut Rng, data: Vec<u8>, slack: usize) -> Container {
     let (extras, room) = (rng.below(3), rng.below(50));
-    let mut container = containers::with(rng, data.len(), extras, room, 30);
-    container.data = data;
-    container
+    let sizes = Sizes {
+        data: data.len(),
+        slack,
+        extras,
+        room,
+    };
+    Container {
+        data,
+        ..containers::with(rng, sizes, 30)
+    }
 }
 
 pub fn run(cases: u64, rng: &mut Rng, checker: &mut Checker) {
@@ -148,7 +155,8 @@ pub fn run(cases: u64, rng: &mut Rng, checker: &mut Checker) {
             }
         }
         checker.share(&share);
-        let container = container_with(rng, share);
+        let slack = containers::slack(rng).min(1000);
+        let container = container_with(rng, share, slack);
         let bytes = match rng.below(20) {
             0 => containers::damaged(rng, &container),
             1 => containers::of_wrong_length(rng, &container),
@@ -183,7 +191,7 @@ fn offsets(rng: &mut Rng, checker: &mut Checker) {
                 let mut moved = share.clone();
                 moved[at..at + width].copy_from_slice(&value.to_be_bytes()[8 - width..]);
                 checker.share(&moved);
-                checker.share_in_container(&container_with(rng, moved).to_bytes());
+                checker.share_in_container(&container_with(rng, moved, 0).to_bytes());
             }
         }
     }

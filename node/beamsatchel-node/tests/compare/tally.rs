@@ -1,8 +1,10 @@
-//! How often each outcome, each pair of outcomes, each look at the data, each touch of it and each shape of a new share
-//! was met.
+//! How often each outcome, each pair of outcomes, each look at the data, each touch of it, each place of the count and
+//! each shape of a new share was met.
 
 use crate::looks::Look;
+use crate::rng::Rng;
 use crate::shapes::Shape;
+use crate::slacks::Slack;
 use crate::touches::Touch;
 use std::collections::{BTreeMap, BTreeSet};
 
@@ -66,6 +68,14 @@ impl Call {
         }
     }
 
+    /// Whether pairs are to be met without slack and beside it, or there is no container that could have it.
+    pub fn slacks(self) -> &'static [Beside] {
+        match self {
+            Call::Create | Call::BareShare | Call::WriteShare => &[Beside::NoSlack],
+            _ => &[Beside::NoSlack, Beside::Slack],
+        }
+    }
+
     /// The pairs of refusals that can apply together: for one call, any two of them.
     pub fn pairs(self) -> Vec<(u32, u32)> {
         let refusals = self
@@ -85,14 +95,32 @@ impl Call {
     }
 }
 
+/// Whether the container of a pair of outcomes has slack.
+#[derive(Clone, Copy, Debug, PartialEq, Eq, PartialOrd, Ord)]
+pub enum Beside {
+    NoSlack,
+    Slack,
+}
+
+impl Beside {
+    /// So much slack.
+    pub fn some(self, rng: &mut Rng) -> usize {
+        match self {
+            Beside::NoSlack => 0,
+            Beside::Slack => rng.pick(&[1, 2, 7, 8, 92, 100]),
+        }
+    }
+}
+
 #[derive(Default)]
 pub struct Tally {
     /// All comparisons.
     pub cases: u64,
     outcomes: BTreeMap<(Call, u32), u64>,
-    pairs: BTreeMap<(Call, u32, u32), u64>,
+    pairs: BTreeMap<(Call, Beside, u32, u32), u64>,
     looks: BTreeMap<(Call, Look), u64>,
     touches: BTreeMap<Touch, u64>,
+    slacks: BTreeMap<Slack, u64>,
     shapes: BTreeMap<Shape, u64>,
     /// The N of shares that were written.
     totals: BTreeSet<u8>,
@@ -110,8 +138,8 @@ impl Tally {
         *self.outcomes.entry((call, number)).or_default() += 1;
     }
 
-    pub fn pair(&mut self, call: Call, (low, high): (u32, u32)) {
-        *self.pairs.entry((call, low, high)).or_default() += 1;
+    pub fn pair(&mut self, call: Call, slack: Beside, (low, high): (u32, u32)) {
+        *self.pairs.entry((call, slack, low, high)).or_default() += 1;
     }
 
     pub fn looks(&mut self, call: Call, looks: Vec<Look>) {
@@ -123,6 +151,12 @@ impl Tally {
     pub fn touches(&mut self, touches: Vec<Touch>) {
         for touch in touches {
             *self.touches.entry(touch).or_default() += 1;
+        }
+    }
+
+    pub fn slacks(&mut self, slacks: Vec<Slack>) {
+        for slack in slacks {
+            *self.slacks.entry(slack).or_default() += 1;
         }
     }
 
@@ -148,19 +182,25 @@ impl Tally {
         }
         println!("\npairs of outcomes met together, each alone and both:");
         for call in Call::ALL {
-            let met: Vec<u64> = self
-                .pairs
-                .iter()
-                .filter(|((of, _, _), _)| *of == call)
-                .map(|(_, count)| *count)
-                .collect();
-            println!(
-                "  {:>16}  {} of {} pairs, each at least {} times",
-                format!("{call:?}"),
-                met.len(),
-                call.pairs().len(),
-                met.iter().min().unwrap_or(&0)
-            );
+            for &beside in call.slacks() {
+                let met: Vec<u64> = self
+                    .pairs
+                    .iter()
+                    .filter(|((of, slack, _, _), _)| (*of, *slack) == (call, beside))
+                    .map(|(_, count)| *count)
+                    .collect();
+                println!(
+                    "  {:>16}  {} of {} pairs, each at least {} times{}",
+                    format!("{call:?}"),
+                    met.len(),
+                    call.pairs().len(),
+                    met.iter().min().unwrap_or(&0),
+                    match beside {
+                        Beside::NoSlack => "",
+                        Beside::Slack => ", beside slack",
+                    }
+                );
+            }
         }
         println!("\nwhere tests and reads looked, and which space short pieces had:");
         for call in Call::LOOKING {
@@ -177,6 +217,13 @@ impl Tally {
             .map(|(touch, count)| format!("{touch:?}: {count}"))
             .collect();
         println!("  {}", met.join(", "));
+        println!("\nwhere the count stood, and what was done beside slack:");
+        let met: Vec<String> = self
+            .slacks
+            .iter()
+            .map(|(slack, count)| format!("{slack:?}: {count}"))
+            .collect();
+        println!("  {}", met.join(", "));
         println!(
             "\nshapes of new shares, written with {} different N:",
             self.totals.len()
@@ -189,7 +236,7 @@ impl Tally {
         println!("  {}\n", met.join(", "));
     }
 
-    /// Every possible outcome, pair, look, touch and shape was met, and every N.
+    /// Every possible outcome, pair, look, touch, place of the count and shape was met, and every N.
     pub fn demand_all(&self) {
         for call in Call::ALL {
             for number in call.outcomes() {
@@ -197,11 +244,13 @@ impl Tally {
                 assert!(met, "{call:?}: outcome {number} was never met");
             }
             for (low, high) in call.pairs() {
-                let met = self.pairs.contains_key(&(call, low, high));
-                assert!(
-                    met,
-                    "{call:?}: outcomes {low} and {high} were never met together"
-                );
+                for slack in call.slacks() {
+                    let met = self.pairs.contains_key(&(call, *slack, low, high));
+                    assert!(
+                        met,
+                        "{call:?}, {slack:?}: outcomes {low} and {high} were never met together"
+                    );
+                }
             }
         }
         for call in Call::LOOKING {
@@ -212,6 +261,9 @@ impl Tally {
         }
         for touch in Touch::ALL {
             assert!(self.touches.contains_key(&touch), "{touch:?} was never met");
+        }
+        for slack in Slack::ALL {
+            assert!(self.slacks.contains_key(&slack), "{slack:?} was never met");
         }
         for shape in Shape::ALL {
             assert!(self.shapes.contains_key(&shape), "{shape:?} was never met");

@@ -5,8 +5,10 @@ use beamsatchel_model::{Container, Request, TestAndWrite};
 use std::cmp::Ordering;
 use std::ops::Range;
 
-/// The two fields in the head that follow the data's size.
-const FIELDS: Range<usize> = 84..100;
+/// The field that follows the data's size.
+const SIZE_FIELD: Range<usize> = 84..92;
+/// The field that follows the count's place.
+const OFFSET_FIELD: Range<usize> = 92..100;
 /// Where a container's data begins.
 const DATA: usize = 468;
 
@@ -14,10 +16,24 @@ const DATA: usize = 468;
 #[derive(Clone, Copy, Debug, PartialEq, Eq, PartialOrd, Ord)]
 pub enum Touch {
     SizeStays,
+    SizeStaysBesideSlack,
+    /// No byte changed, and there is slack.
+    NothingBesideSlack,
     Grows,
     GrowsBesideExtras,
+    /// Some slack is left.
+    GrowsInsideTheSlack,
+    GrowsInsideTheSlackBesideExtras,
+    /// None is left, and the count stays.
+    GrowsToTheSlacksEnd,
+    GrowsToTheSlacksEndBesideExtras,
+    GrowsPastTheSlack,
+    GrowsPastTheSlackBesideExtras,
     Shrinks,
     ShrinksBesideExtras,
+    ShrinksBesideSlack,
+    /// The writes reach past the slack, and the cut takes that back.
+    PastTheSlackOnTheWay,
     WriteInside,
     WriteAcrossTheEnd,
     WriteAtTheEnd,
@@ -28,15 +44,31 @@ pub enum Touch {
     GapFilled,
     /// All or some of it at or past the final size.
     WriteCut,
+    WriteBeginsInTheSlack,
+    WriteBeginsAtTheSlacksEnd,
+    WriteBeginsPastTheSlack,
+    WriteEndsInTheSlack,
+    WriteEndsAtTheSlacksEnd,
+    WriteEndsPastTheSlack,
 }
 
 impl Touch {
-    pub const ALL: [Touch; 12] = [
+    pub const ALL: [Touch; 28] = [
         Touch::SizeStays,
+        Touch::SizeStaysBesideSlack,
+        Touch::NothingBesideSlack,
         Touch::Grows,
         Touch::GrowsBesideExtras,
+        Touch::GrowsInsideTheSlack,
+        Touch::GrowsInsideTheSlackBesideExtras,
+        Touch::GrowsToTheSlacksEnd,
+        Touch::GrowsToTheSlacksEndBesideExtras,
+        Touch::GrowsPastTheSlack,
+        Touch::GrowsPastTheSlackBesideExtras,
         Touch::Shrinks,
         Touch::ShrinksBesideExtras,
+        Touch::ShrinksBesideSlack,
+        Touch::PastTheSlackOnTheWay,
         Touch::WriteInside,
         Touch::WriteAcrossTheEnd,
         Touch::WriteAtTheEnd,
@@ -44,6 +76,12 @@ impl Touch {
         Touch::SecondGap,
         Touch::GapFilled,
         Touch::WriteCut,
+        Touch::WriteBeginsInTheSlack,
+        Touch::WriteBeginsAtTheSlacksEnd,
+        Touch::WriteBeginsPastTheSlack,
+        Touch::WriteEndsInTheSlack,
+        Touch::WriteEndsAtTheSlacksEnd,
+        Touch::WriteEndsPastTheSlack,
     ];
 
     /// What a test-and-write that was done touched; for any other request, nothing.
@@ -65,8 +103,50 @@ impl Touch {
             (Ordering::Less, false) => &[Touch::Shrinks],
             (Ordering::Less, true) => &[Touch::Shrinks, Touch::ShrinksBesideExtras],
         });
+        if old.slack > 0 {
+            touches.extend(beside_slack(&request, &old, &new));
+            let nothing = before.container == after.container;
+            touches.extend(nothing.then_some(Touch::NothingBesideSlack));
+        }
         touches
     }
+}
+
+/// What a test-and-write did to a container that has slack.
+fn beside_slack(request: &TestAndWrite, old: &Container, new: &Container) -> Vec<Touch> {
+    let slack_end = old.data.len() + old.slack;
+    let extras = old.places.len() > 4;
+    let growth = new.data.len().cmp(&slack_end);
+    let mut touches = match (new.data.len().cmp(&old.data.len()), growth, extras) {
+        (Ordering::Equal, ..) => vec![Touch::SizeStaysBesideSlack],
+        (Ordering::Less, ..) => vec![Touch::ShrinksBesideSlack],
+        (_, Ordering::Less, false) => vec![Touch::GrowsInsideTheSlack],
+        (_, Ordering::Less, true) => vec![Touch::GrowsInsideTheSlackBesideExtras],
+        (_, Ordering::Equal, false) => vec![Touch::GrowsToTheSlacksEnd],
+        (_, Ordering::Equal, true) => vec![Touch::GrowsToTheSlacksEndBesideExtras],
+        (_, Ordering::Greater, false) => vec![Touch::GrowsPastTheSlack],
+        (_, Ordering::Greater, true) => vec![Touch::GrowsPastTheSlackBesideExtras],
+    };
+    for (start, end) in places(request) {
+        if old.data.len() <= start {
+            touches.push(match start.cmp(&slack_end) {
+                Ordering::Less => Touch::WriteBeginsInTheSlack,
+                Ordering::Equal => Touch::WriteBeginsAtTheSlacksEnd,
+                Ordering::Greater => Touch::WriteBeginsPastTheSlack,
+            });
+        }
+        if old.data.len() < end {
+            touches.push(match end.cmp(&slack_end) {
+                Ordering::Less => Touch::WriteEndsInTheSlack,
+                Ordering::Equal => Touch::WriteEndsAtTheSlacksEnd,
+                Ordering::Greater => Touch::WriteEndsPastTheSlack,
+            });
+        }
+        if slack_end < end && new.data.len() <= slack_end {
+            touches.push(Touch::PastTheSlackOnTheWay);
+        }
+    }
+    touches
 }
 
 /// Where each write fell that is not empty.
@@ -110,7 +190,8 @@ fn places(request: &TestAndWrite) -> impl Iterator<Item = (usize, usize)> + '_ {
 }
 
 /// Outside the fields, the written bytes that remain and the stretch from the lower data end to the
-/// higher used end, no byte changed; where the size stays, none but written ones.
+/// higher used end, no byte changed. Where the count stays, none but the size field, written bytes and
+/// what a cut freed; where the size stays too, none but written ones.
 fn demand_elsewhere(
     before: &Case,
     request: &TestAndWrite,
@@ -118,17 +199,15 @@ fn demand_elsewhere(
     old: &Container,
     new: &Container,
 ) {
-    let (from, to) = (
-        DATA + old.data.len().min(new.data.len()),
-        old.used().max(new.used()) as usize,
-    );
-    let moves = old.data.len() != new.data.len();
+    let (old_end, data_end) = (DATA + old.data.len(), DATA + new.data.len());
+    let (from, to) = match old.count() == new.count() {
+        true => (data_end, old_end.max(data_end)),
+        false => (old_end.min(data_end), old.used().max(new.used()) as usize),
+    };
     let mut may_change = vec![false; before.container.len()];
-    if moves {
-        may_change[FIELDS].fill(true);
-        may_change[from..to].fill(true);
-    }
-    let data_end = DATA + new.data.len();
+    may_change[SIZE_FIELD].fill(old_end != data_end);
+    may_change[OFFSET_FIELD].fill(old.count() != new.count());
+    may_change[from..to].fill(true);
     for (start, end) in places(request) {
         let written = (DATA + start).min(data_end)..(DATA + end).min(data_end);
         may_change[written].fill(true);

@@ -2,8 +2,9 @@
 
 use super::{fresh, run_case, ENABLER};
 use crate::checker::Checker;
+use crate::containers::{self, Sizes};
+use crate::requests;
 use crate::rng::Rng;
-use crate::{containers, requests};
 
 pub fn run(rng: &mut Rng, checker: &mut Checker) {
     buffer_lengths(rng, checker);
@@ -54,16 +55,27 @@ fn size_fields(checker: &mut Checker) {
 fn extra_counts(rng: &mut Rng, checker: &mut Checker) {
     for extras in [0, 1, 2, 59, 60, 61, 62, 255, 256, 65_536, 1 << 31, u32::MAX] {
         for room in [0, 1, 92 * 62, 92 * 62 - 1] {
-            for there in [0, 1, 60] {
-                let container = containers::with(rng, 5, there, room, 0);
-                let mut bytes = container.to_bytes();
-                bytes[473..477].copy_from_slice(&extras.to_be_bytes());
+            for (there, slack) in [(0, 0), (1, 0), (60, 0), (0, 7), (1, 7), (60, 7)] {
+                let sizes = Sizes {
+                    data: 5,
+                    slack,
+                    extras: there,
+                    room,
+                };
+                let mut bytes = containers::with(rng, sizes, 0).to_bytes();
+                bytes[473 + slack..477 + slack].copy_from_slice(&extras.to_be_bytes());
                 run_case(checker, &bytes, vec![5, 0, 0, 0], 0);
             }
         }
         // Records for all of them, where they exceed 60 by a few only.
         if (61..=62).contains(&extras) {
-            let container = containers::with(rng, 5, extras as usize, 0, 0);
+            let sizes = Sizes {
+                data: 5,
+                slack: 0,
+                extras: extras as usize,
+                room: 0,
+            };
+            let container = containers::with(rng, sizes, 0);
             let number = run_case(checker, &container.to_bytes(), vec![5, 0, 0, 0], 0);
             assert_eq!(number, 2);
         }

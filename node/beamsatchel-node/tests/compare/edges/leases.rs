@@ -1,16 +1,32 @@
 use super::run_case;
 use crate::checker::Checker;
+use crate::containers::{self, Sizes};
+use crate::requests;
 use crate::rng::Rng;
-use crate::{containers, requests};
 use beamsatchel_model::{Container, Lease, Request};
 
 /// 0 to 64 leases, without and with empty places; each lease request at the first, the last and
-/// an unknown lease, with no room, room for one lease but for one byte, and for one.
+/// an unknown lease, with no room, room for one lease but for one byte, and for one, beside slack in
+/// which a lease would have room.
 pub fn run(rng: &mut Rng, checker: &mut Checker) {
     for count in 0..=64 {
-        for room in [0, 91, 92] {
+        for (slack, room) in [
+            (0, 0),
+            (0, 91),
+            (0, 92),
+            (1, 91),
+            (92, 0),
+            (92, 91),
+            (92, 92),
+        ] {
             for emptied in [0, 1, 3, count] {
-                let mut container = containers::with_own_tokens(rng, count, 3, room);
+                let sizes = Sizes {
+                    data: 3,
+                    slack,
+                    extras: 0,
+                    room,
+                };
+                let mut container = containers::with_own_tokens(rng, count, sizes);
                 for _ in 0..emptied.min(count) {
                     let slot = rng.below(container.places.len());
                     // The last extra keeps its owner.

@@ -5,6 +5,7 @@ mod entries;
 mod leases;
 mod replies;
 mod room;
+mod slack;
 
 use crate::case::Case;
 use crate::checker::Checker;
@@ -16,6 +17,7 @@ const ENABLER: [u8; 32] = [0xEE; 32];
 pub fn run(rng: &mut Rng, checker: &mut Checker) {
     buffers::run(rng, checker);
     room::run(checker);
+    slack::run(rng, checker);
     entries::run(rng, checker);
     replies::run(rng, checker);
     leases::run(rng, checker);
@@ -27,6 +29,7 @@ fn fresh(length: usize) -> Container {
         node: [7; 20],
         enabler: ENABLER,
         data: Vec::new(),
+        slack: 0,
         places: vec![None; 4],
     }
 }

@@ -70,7 +70,7 @@ fn entries(rng: &mut Rng) -> usize {
 /// A test that mostly holds.
 fn test(rng: &mut Rng, container: &Container) -> Test {
     let size = container.data.len();
-    let (offset, length) = extent(rng, size);
+    let (offset, length) = extent(rng, container);
     let start = size.min(offset.max(0) as usize);
     let piece = &container.data[start..size.min(start + length as usize)];
     let specimen = specimen(rng, piece);
@@ -118,15 +118,18 @@ fn specimen(rng: &mut Rng, piece: &[u8]) -> Vec<u8> {
 }
 
 fn write(rng: &mut Rng, container: &Container) -> Write {
-    let size = container.data.len();
-    let offset = offset(rng, size);
+    let offset = offset(rng, container);
+    let slack_end = (container.data.len() + container.slack) as i64;
     let room = (container.length - 472 - 92 * container.extras()) as i64;
+    let up_to = |end: i64| (end - i64::from(offset)).clamp(0, 2000) as usize;
     let count = match rng.below(100) {
         0..10 => 0,
-        10..80 => rng.within(1..=20),
-        80..95 => rng.below(200),
+        10..75 => rng.within(1..=20),
+        75..85 => rng.below(200),
+        // up to the slack's end, one before it or one past it
+        85..95 => up_to(slack_end + rng.pick(&[-1, 0, 1])),
         // up to the very end of the room, or one past it
-        _ => (room - i64::from(offset) + rng.pick(&[0, 1])).clamp(0, 2000) as usize,
+        _ => up_to(room + rng.pick(&[0, 1])),
     };
     Write {
         offset,
@@ -146,29 +149,33 @@ fn cut(rng: &mut Rng, container: &Container, writes: &[Write]) -> u32 {
         2 => grown,
         3 => grown + 1,
         4 => rng.pick(&[u32::MAX, 0x7FFF_FFFF, 0x8000_0000]),
+        // at the slack's end, or beside it
+        5 => (size + container.slack as u32 + rng.pick(&[0, 1, 2])).saturating_sub(1),
         _ => rng.below(size as usize + 20) as u32,
     }
 }
 
 fn reads(rng: &mut Rng, container: &Container) -> Vec<Read> {
     let read = |rng: &mut Rng| {
-        let (offset, length) = extent(rng, container.data.len());
+        let (offset, length) = extent(rng, container);
         Read { offset, length }
     };
     (0..entries(rng)).map(|_| read(rng)).collect()
 }
 
 /// Where a test or a read looks, and at how many bytes.
-fn extent(rng: &mut Rng, size: usize) -> (i32, u32) {
-    let offset = offset(rng, size);
-    (offset, length(rng, size, offset))
+fn extent(rng: &mut Rng, container: &Container) -> (i32, u32) {
+    let offset = offset(rng, container);
+    (offset, length(rng, container.data.len(), offset))
 }
 
-/// An offset inside the data or a little past it; seldom the largest, seldom negative.
-fn offset(rng: &mut Rng, size: usize) -> i32 {
+/// An offset inside the data, a little past it, or beside the slack's end; seldom the largest, seldom negative.
+fn offset(rng: &mut Rng, container: &Container) -> i32 {
+    let size = container.data.len();
     match rng.below(200) {
         0..120 => rng.below(size + 1) as i32,
-        120..190 => (size + rng.below(30)) as i32,
+        120..175 => (size + rng.below(30)) as i32,
+        175..190 => (size + container.slack + rng.below(3)).saturating_sub(1) as i32,
         190..197 => rng.pick(&[i32::MAX, i32::MAX - 1, 65_064, 65_065]),
         _ => rng.pick(&[-1, -2, i32::MIN, i32::MIN + 1, -(size as i32) - 1]),
     }
