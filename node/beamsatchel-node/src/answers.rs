@@ -41,7 +41,7 @@ pub enum Reason {
     NoSuchLease = 9,
     /// 10: 64 leases, none with the renewal token.
     LeasesFull = 10,
-    /// 11: the used length after the request would exceed the buffer.
+    /// 11: the used length after the request, slack included, would exceed the buffer.
     NoRoom = 11,
     /// 12: create on a buffer that begins with the magic.
     AlreadyContainer = 12,

@@ -3,7 +3,7 @@
 use crate::answers::{outcome, Answer, Reason, Refusal, Reply, Written};
 use crate::ffi;
 use crate::layout::{
-    field, COUNT, DATA, FIXED_PLACES, LEASES, NODE_ID, RECORD, SIZE, WRITE_ENABLER,
+    field, COUNT, COUNT_OFFSET, DATA, FIXED_PLACES, LEASES, NODE_ID, RECORD, SIZE, WRITE_ENABLER,
 };
 use crate::requests::{AddLease, CancelLease, ReadData, RenewLease, TestAndWrite};
 use crate::secrets::{CancelToken, RenewalToken, WriteEnabler};
@@ -316,7 +316,9 @@ pub(crate) fn judge(buffer: &[u8]) -> Result<(), Reason> {
 #[derive(Clone, Copy)]
 pub struct View<'a> {
     bytes: &'a [u8],
-    /// Where the extra-lease count stands: at the end of data.
+    /// Where the data ends.
+    data_end: usize,
+    /// Where the extra-lease count stands.
     count: usize,
 }
 
@@ -325,8 +327,12 @@ impl<'a> View<'a> {
     pub fn open(bytes: &'a [u8]) -> Result<View<'a>, Refusal> {
         judge(bytes).map_err(Refusal::of)?;
         let size = u64::from_be_bytes(field(bytes, SIZE)) as usize;
-        let count = DATA + size;
-        Ok(View { bytes, count })
+        let count = u64::from_be_bytes(field(bytes, COUNT_OFFSET)) as usize;
+        Ok(View {
+            bytes,
+            data_end: DATA + size,
+            count,
+        })
     }
 
     /// The node that accepted the write enabler.
@@ -341,7 +347,30 @@ impl<'a> View<'a> {
 
     /// The data.
     pub fn data(&self) -> &'a [u8] {
-        &self.bytes[DATA..self.count]
+        &self.bytes[DATA..self.data_end]
+    }
+
+    /// How many zeros stand between the data and the extra-lease count. Data that grows uses them up before any lease
+    /// moves, and what a cut takes from the data is added to them, so that a cut frees no room for leases.
+    ///
+    /// ```
+    /// use beamsatchel_node::{Container, NodeId, TestAndWrite, WriteEnabler};
+    ///
+    /// # fn main() -> Result<(), beamsatchel_node::Error> {
+    /// let enabler = WriteEnabler::new([1; 32]);
+    /// let mut slot = Container::create([0; 500], NodeId([7; 20]), enabler)?;
+    /// let request = TestAndWrite::new(enabler).write(0, b"samples")?;
+    /// assert!(slot.test_and_write(&request, &mut [])?.is_done());
+    /// let cut = TestAndWrite::new(enabler).cut(2);
+    /// assert!(slot.test_and_write(&cut, &mut [])?.is_done());
+    ///
+    /// let view = slot.view()?;
+    /// assert_eq!((view.data(), view.slack_len(), view.used_len()), (&b"sa"[..], 5, 479));
+    /// # Ok(())
+    /// # }
+    /// ```
+    pub fn slack_len(&self) -> usize {
+        self.count - self.data_end
     }
 
     /// The number of extra lease places, empty ones included.
@@ -358,7 +387,7 @@ impl<'a> View<'a> {
             .filter_map(|(place, record)| Some((place, Lease::from_record(&record)?)))
     }
 
-    /// The bytes in use; those after are zero.
+    /// The bytes in use, the slack among them; those after are zero.
     pub fn used_len(&self) -> usize {
         self.count + COUNT + RECORD * self.extra_places()
     }
@@ -377,6 +406,7 @@ impl fmt::Debug for View<'_> {
             .field("used_len", &self.used_len())
             .field("node_id", &self.node_id())
             .field("data_len", &self.data().len())
+            .field("slack_len", &self.slack_len())
             .field("leases", &self.leases().count())
             .finish_non_exhaustive()
     }

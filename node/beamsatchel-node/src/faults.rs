@@ -20,12 +20,14 @@ pub enum Clause {
     BufferLength,
     /// The buffer begins with the magic.
     Magic,
-    /// The offset field is 468 plus the data size.
+    /// The offset field is 468 plus the data size, or more.
     CountOffset,
-    /// The data, the count and the extra leases end inside the buffer.
+    /// The extra-lease count and the extra leases end inside the buffer.
     UsedLength,
     /// There are at most 60 extra leases.
     ExtraCount,
+    /// Every byte between the data and the extra-lease count is zero.
+    Slack,
     /// A record with owner 0 is all zeros.
     EmptyPlace,
     /// The last extra lease has an owner.
@@ -40,9 +42,12 @@ impl fmt::Display for Clause {
         f.write_str(match self {
             Clause::BufferLength => "the buffer is not 472 to 65,536 bytes long",
             Clause::Magic => "the magic is not a container's",
-            Clause::CountOffset => "the offset of the extra-lease count is not 468 plus data size",
-            Clause::UsedLength => "data and extra leases do not fit the buffer",
+            Clause::CountOffset => {
+                "the offset of the extra-lease count is below 468 plus the data size at byte 84"
+            }
+            Clause::UsedLength => "the extra-lease count or an extra lease is outside the buffer",
             Clause::ExtraCount => "the extra-lease count is above 60",
+            Clause::Slack => "a byte between data and extra-lease count is not zero",
             Clause::EmptyPlace => "a lease place with owner 0 is not all zeros",
             Clause::LastExtra => "the last extra lease has no owner",
             Clause::AfterUsedEnd => "a byte after the used end is not zero",
@@ -100,14 +105,15 @@ fn explain(buffer: &[u8]) -> Option<(Clause, usize)> {
     }
     let size = u64::from_be_bytes(field(buffer, SIZE));
     let count_offset = u64::from_be_bytes(field(buffer, COUNT_OFFSET));
-    // A sum that wraps is no number that the field could hold.
-    if size.checked_add(DATA as u64) != Some(count_offset) {
+    // As numbers: the sum may be above every place that the field could name.
+    let data_end = DATA as u128 + u128::from(size);
+    if u128::from(count_offset) < data_end {
         return Some((Clause::CountOffset, COUNT_OFFSET));
     }
-    if size > (length - MIN_LENGTH) as u64 {
-        return Some((Clause::UsedLength, SIZE));
+    if count_offset > (length - COUNT) as u64 {
+        return Some((Clause::UsedLength, COUNT_OFFSET));
     }
-    let count = DATA + size as usize;
+    let (data_end, count) = (data_end as usize, count_offset as usize);
     let extras = u32::from_be_bytes(field(buffer, count)) as usize;
     if extras > MAX_EXTRAS {
         return Some((Clause::ExtraCount, count));
@@ -115,6 +121,9 @@ fn explain(buffer: &[u8]) -> Option<(Clause, usize)> {
     let used = count + COUNT + RECORD * extras;
     if used > length {
         return Some((Clause::UsedLength, count));
+    }
+    if let Some(inside) = first_not_zero(&buffer[data_end..count]) {
+        return Some((Clause::Slack, data_end + inside));
     }
     for at in places(count, extras) {
         let record = &buffer[at..at + RECORD];

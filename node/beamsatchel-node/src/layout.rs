@@ -10,11 +10,11 @@ pub const NODE_ID: usize = 32;
 pub const WRITE_ENABLER: usize = 52;
 /// The data size, in 8 bytes.
 pub const SIZE: usize = 84;
-/// The offset of the extra-lease count, in 8 bytes.
+/// The offset of the extra-lease count, in 8 bytes. The extra leases follow the count.
 pub const COUNT_OFFSET: usize = 92;
 /// The first of the four lease places.
 pub const LEASES: usize = 100;
-/// The data. The extra-lease count follows it, and the extra leases follow the count.
+/// The data. Zeros, the slack, fill what lies between its end and the extra-lease count.
 pub const DATA: usize = 468;
 /// Bytes of the extra-lease count.
 pub const COUNT: usize = 4;

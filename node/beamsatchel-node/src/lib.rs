@@ -49,7 +49,8 @@
 //! it, at first and whenever a source has changed; cargo tells that by the files' times, as for sources in Rust. From
 //! nothing that takes minutes, in which cargo shows nothing. On a machine without the Rattle kit, `BEAMSATCHEL_ARCHIVE`
 //! names an archive that was made elsewhere, of the same version as this crate; a relative path is relative to where
-//! cargo is started. One of another version may link all the same: only a program that calls what it lacks does not.
+//! cargo is started. One of another version may link all the same, and goes by its own version's rules: only a program
+//! that calls what it lacks does not link.
 
 #![warn(missing_docs)]
 

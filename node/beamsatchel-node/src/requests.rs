@@ -146,7 +146,8 @@ impl TestAndWrite {
         Ok(self)
     }
 
-    /// Cuts the data to a new length after the writes, where it is longer.
+    /// Cuts the data to a new length after the writes, where it is longer. What it frees stays with the data, as slack
+    /// that later writes use; leases find no room there ([`View::slack_len`](crate::View::slack_len)).
     ///
     /// ```
     /// use beamsatchel_node::{Container, NodeId, TestAndWrite, WriteEnabler};

@@ -7,7 +7,7 @@ use beamsatchel_node::{
     ffi, CancelToken, Container, Lease, NodeId, Opcode, ReadData, Reason, Refusal, RenewalToken,
     Reply, Share, TestAndWrite, View, WriteEnabler, Written,
 };
-use common::{bad_share, fresh, lease, rising, share, slot, with_data, BOUNDS, ENABLER, NODE};
+use common::{bad_share, cut, fresh, lease, rising, share, slot, with_data, BOUNDS, ENABLER, NODE};
 
 fn reason<T>(result: Result<T, Refusal>) -> Reason {
     result.err().expect("refused").reason
@@ -136,6 +136,7 @@ fn a_view_shows_each_field() {
     assert_eq!(view.write_enabler(), ENABLER);
     assert_eq!(view.data(), data);
     assert_eq!(view.data().as_ptr_range(), bytes[468..545].as_ptr_range());
+    assert_eq!(view.slack_len(), 0);
     assert_eq!(view.extra_places(), 3);
     assert_eq!(view.used_len(), 472 + 77 + 3 * 92);
     assert_eq!(view.buffer_len(), 1000);
@@ -150,6 +151,43 @@ fn a_view_shows_each_field() {
     let again = opened.view().unwrap();
     assert_eq!(again.data().as_ptr(), view.data().as_ptr());
     assert_eq!(again.leases().count(), 2);
+}
+
+/// A cut leaves count and extras where they are, and the view finds them behind the slack.
+#[test]
+fn a_view_beside_slack() {
+    let data = rising::<77>(0x30);
+    let bytes = cut(slot(1000, &data), 7);
+    let view = View::open(&bytes).unwrap();
+    assert_eq!(view.data(), &data[..7]);
+    assert_eq!((view.slack_len(), view.extra_places()), (70, 3));
+    assert_eq!(view.used_len(), 472 + 77 + 3 * 92);
+    let leases: Vec<(usize, Lease)> = view.leases().collect();
+    assert_eq!(leases, [(2, lease(3)), (6, lease(7))]);
+    assert_eq!(bytes[733..825], lease(7).to_record());
+
+    // Growth uses the slack up first: all but one byte, all, and a byte more, which moves count and extras.
+    let mut slot = Container::open(bytes).unwrap();
+    for (size, slack, used) in [(76, 1, 825), (77, 0, 825), (78, 0, 826)] {
+        let request = TestAndWrite::new(ENABLER).write(size - 1, b"!").unwrap();
+        assert!(slot.test_and_write(&request, &mut []).unwrap().is_done());
+        let view = slot.view().unwrap();
+        assert_eq!(view.data().len(), size as usize);
+        assert_eq!((view.slack_len(), view.used_len()), (slack, used));
+        assert_eq!(view.leases().last(), Some((6, lease(7))));
+    }
+}
+
+/// The room that a cut frees is the data's, and not a lease's.
+#[test]
+fn a_lease_finds_no_room_in_slack() {
+    let mut tight = Container::open(cut(with_data(571, b"eight by"), 0)).unwrap();
+    for number in 1..=4 {
+        assert_eq!(tight.add_lease(lease(number)), Ok(u64::from(number)));
+    }
+    assert_eq!(reason(tight.add_lease(lease(5))), Reason::NoRoom);
+    let request = TestAndWrite::new(ENABLER).write(0, b"eight by").unwrap();
+    assert!(tight.test_and_write(&request, &mut []).unwrap().is_done());
 }
 
 #[test]
@@ -408,8 +446,11 @@ fn debug_tells_sizes_alone() {
     assert_eq!(
         format!("{:?}", slot.view().unwrap()),
         "View { buffer_len: 1000, used_len: 825, node_id: NodeId(05060708090a0b0c0d0e0f101112131415161718), \
-         data_len: 77, leases: 2, .. }"
+         data_len: 77, slack_len: 0, leases: 2, .. }"
     );
+    let bytes = cut(bytes, 70);
+    let words = format!("{:?}", View::open(&bytes).unwrap());
+    assert!(words.ends_with(" data_len: 70, slack_len: 7, leases: 2, .. }"));
     // Where refused, it is printed all the same.
     let adopted = Container::adopt([0xEE; 3]);
     assert_eq!(format!("{adopted:?}"), "Container { buffer_len: 3, .. }");

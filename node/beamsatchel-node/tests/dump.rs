@@ -2,7 +2,7 @@
 
 mod common;
 
-use common::{bad_share, fresh, lease, share, slot, with_data, BOUNDS, ENABLER};
+use common::{bad_share, cut, fresh, lease, share, slot, with_data, BOUNDS, ENABLER};
 use std::ffi::{OsStr, OsString};
 use std::fs::{self, File};
 use std::io::{Read, Write};
@@ -71,6 +71,7 @@ fn words_of_slot(secret: impl Fn(&[u8; 32]) -> String) -> String {
   node id        05060708090a0b0c0d0e0f101112131415161718
   write enabler  {enabler}
   data           555 bytes at byte 468
+  slack          0 bytes at byte 1023
   leases         2 present, in 4 places and 3 extra
 "
     );
@@ -174,6 +175,7 @@ fn a_fresh_container() {
   node id        05060708090a0b0c0d0e0f101112131415161718
   write enabler  (not shown)
   data           0 bytes at byte 468
+  slack          0 bytes at byte 468
   leases         0 present, in 4 places and 0 extra
   share          none, outcome 21: The share is shorter than its 107-byte header.
                  at byte 468
@@ -181,6 +183,31 @@ fn a_fresh_container() {
     assert_eq!((&words[..], code), (expected, 0));
     let (words, _) = dump("fresh", &[], &with_data(473, b"A"));
     assert!(words.contains("\n  data           1 byte at byte 468\n"));
+}
+
+/// What a cut left: the data is shorter, and as many bytes are in use as before it.
+#[test]
+fn slack_is_told_of() {
+    for (new_length, slack) in [(34, "1 byte at byte 502"), (5, "30 bytes at byte 473")] {
+        let before = slot(2000, b"thirty-five bytes, of which some go");
+        let (words, code) = dump("slack", &["--data"], &cut(before, new_length));
+        assert!(words.starts_with("  buffer         2000 bytes, 783 in use\n"));
+        let told = format!(
+            "
+  data           {new_length} bytes at byte 468
+  slack          {slack}
+  leases         2 present, in 4 places and 3 extra
+    place 2: owner 168496131, expiry 268435756
+"
+        );
+        assert!(words.contains(&told), "{words}");
+        assert!(words.contains("\n    place 6: owner 168496135, expiry 268436156\n"));
+        assert_eq!(code, 0);
+    }
+    // It is no data.
+    let (words, _) = dump("slack", &["--data"], &cut(with_data(500, b"abc"), 1));
+    let row = format!("        0  {:<47}  |a|\n", "61");
+    assert!(words.ends_with(&format!("at byte 469\n{row}")), "{words}");
 }
 
 /// Each field or part that a share is refused for begins at a byte that no other begins at.
@@ -228,7 +255,11 @@ fn refused_files_name_the_byte() {
         (with(31, 0), "at byte 31: the magic is not a container's"),
         (
             with(99, 0),
-            "at byte 92: the offset of the extra-lease count is not 468 plus data size",
+            "at byte 92: the offset of the extra-lease count is below 468 plus the data size at byte 84",
+        ),
+        (
+            with(97, 1),
+            "at byte 92: the extra-lease count or an extra lease is outside the buffer",
         ),
         (
             with(481, 61),
@@ -236,7 +267,11 @@ fn refused_files_name_the_byte() {
         ),
         (
             with(481, 6),
-            "at byte 478: data and extra leases do not fit the buffer",
+            "at byte 478: the extra-lease count or an extra lease is outside the buffer",
+        ),
+        (
+            with(91, 8),
+            "at byte 476: a byte between data and extra-lease count is not zero",
         ),
         (
             with(200, 3),
@@ -393,7 +428,7 @@ fn a_name_that_would_forge_lines() {
     let path = file("forged", name, &fresh(472));
     let (stdout, stderr, code) = run(&[path.as_os_str()]);
     assert_eq!((stderr, code), (String::new(), 0));
-    assert_eq!(stdout.lines().count(), 8);
+    assert_eq!(stdout.lines().count(), 9);
     let first = stdout.lines().next().unwrap();
     assert!(first.starts_with('"') && first.ends_with(told), "{first}");
     assert!(!stdout.contains('\x1B'));

@@ -56,21 +56,47 @@ fn test(opcode: u8, specimen: &[u8], data: &[u8]) -> Vec<u8> {
     request
 }
 
-fn add(number: u8) -> Vec<u8> {
-    let mut request = vec![2, 0, 0, 0, 1, 0, 0, 0, 9];
-    request.extend([number; 32]);
-    request.extend([number; 32]);
+/// A kind 2 request: the lease of an owner, with expiry 7 and tokens of bytes that are the owner's number.
+fn add(owner: u8) -> Vec<u8> {
+    let mut request = vec![2, 0, 0, 0, owner, 0, 0, 0, 7];
+    request.extend([owner; 64]);
     request.extend(NODE);
     request
+}
+
+/// A kind 4 request for that lease.
+fn cancel(owner: u8) -> Vec<u8> {
+    [&[4][..], &[owner; 32]].concat()
 }
 
 fn number(container: &mut [u8], request: &[u8]) -> u32 {
     apply(container, request, &mut []).0
 }
 
+/// The size field, or the offset field.
+fn field(container: &[u8], at: usize) -> usize {
+    u64::from_be_bytes(container[at..at + 8].try_into().unwrap()) as usize
+}
+
 fn data(container: &[u8]) -> &[u8] {
-    let size = u64::from_be_bytes(container[84..92].try_into().unwrap());
-    &container[468..468 + size as usize]
+    &container[468..468 + field(container, 84)]
+}
+
+fn used(container: &[u8]) -> usize {
+    let count = field(container, 92);
+    let extras = u32::from_be_bytes(container[count..count + 4].try_into().unwrap());
+    count + 4 + 92 * extras as usize
+}
+
+/// A container of so many bytes with this data, so many bytes of slack, and no lease.
+fn with_data(length: usize, data: &[u8], slack: usize) -> Vec<u8> {
+    let mut container = fresh(length);
+    let longer = [data, &vec![b'Z'; slack]].concat();
+    assert_eq!(number(&mut container, &write(&[(0, &longer)], None)), 0);
+    let cut = write(&[], Some(data.len() as u32));
+    assert_eq!(number(&mut container, &cut), 0);
+    assert_eq!(field(&container, 92), 468 + data.len() + slack);
+    container
 }
 
 #[test]
@@ -111,15 +137,17 @@ fn p2_one_byte_of_room() {
 #[test]
 fn p3_and_p4_zeros_in_gaps_and_after_a_cut() {
     let mut container = fresh(500);
+    assert_eq!(used(&container), 472);
     assert_eq!(number(&mut container, &write(&[(3, b"AB")], None)), 0);
     assert_eq!(data(&container), [0, 0, 0, 0x41, 0x42]);
-    let used = 472 + data(&container).len();
-    assert_eq!(used, 477);
+    assert_eq!(used(&container), 477);
 
     assert_eq!(number(&mut container, &write(&[], Some(2))), 0);
     assert_eq!(data(&container), [0, 0]);
+    assert_eq!(used(&container), 477);
     assert_eq!(number(&mut container, &write(&[(4, b"Z")], None)), 0);
     assert_eq!(data(&container), [0, 0, 0, 0, 0x5A]);
+    assert_eq!(used(&container), 477);
 }
 
 #[test]
@@ -192,9 +220,7 @@ fn p9_a_false_test_comes_before_no_room() {
 
 #[test]
 fn p10_a_zero_token_matches_no_empty_lease() {
-    let mut cancel = [0; 33];
-    cancel[0] = 4;
-    assert_eq!(number(&mut fresh(472), &cancel), 9);
+    assert_eq!(number(&mut fresh(472), &cancel(0)), 9);
 }
 
 #[test]
@@ -224,9 +250,8 @@ fn reads(entries: &[(i32, u32)]) -> Vec<u8> {
 
 /// What a request gives on `ABCDE`, beside so many bytes 9: number, count and reply space.
 fn seen(request: &[u8], space: usize) -> (u32, u64, Vec<u8>) {
-    let mut container = fresh(500);
-    assert_eq!(number(&mut container, &write(&[(0, b"ABCDE")], None)), 0);
-    let before = container.clone();
+    let before = with_data(500, b"ABCDE", 0);
+    let mut container = before.clone();
     let mut reply = vec![9; space];
     let (number, count) = apply(&mut container, request, &mut reply);
     assert_eq!(container, before);
@@ -278,21 +303,27 @@ fn p16_a_negative_offset_comes_first() {
     }
 }
 
-/// What a request touches on `ABCDE` with five leases in 571 bytes: its number, and the places of
-/// the bytes that differ afterwards.
-fn touched(request: &[u8]) -> (u32, Vec<usize>) {
-    let mut container = fresh(571);
-    assert_eq!(number(&mut container, &write(&[(0, b"ABCDE")], None)), 0);
-    for lease in 1..=5 {
-        let mut add = vec![2, 0, 0, 0, lease, 0, 0, 0, 7];
-        add.extend([lease; 64]);
-        add.extend(NODE);
-        assert_eq!(number(&mut container, &add), 0);
+/// `ABCDE` with so many bytes of slack, and the leases of owners 1 to 5.
+fn with_five_leases(length: usize, slack: usize) -> Vec<u8> {
+    let mut container = with_data(length, b"ABCDE", slack);
+    for owner in 1..=5 {
+        assert_eq!(number(&mut container, &add(owner)), 0);
     }
-    let before = container.clone();
+    container
+}
+
+/// What a request touches in a container: its number, and the places of the bytes that differ
+/// afterwards.
+fn touched_in(before: &[u8], request: &[u8]) -> (u32, Vec<usize>) {
+    let mut container = before.to_vec();
     let number = number(&mut container, request);
-    let changed = (0..571).filter(|place| before[*place] != container[*place]);
+    let changed = (0..before.len()).filter(|place| before[*place] != container[*place]);
     (number, changed.collect())
+}
+
+/// What a request touches on `ABCDE` with five leases in 571 bytes.
+fn touched(request: &[u8]) -> (u32, Vec<usize>) {
+    touched_in(&with_five_leases(571, 0), request)
 }
 
 #[test]
@@ -326,20 +357,11 @@ fn p18_a_write_past_the_end_moves_the_extra_lease() {
 }
 
 #[test]
-fn p19_a_cut_moves_it_back() {
-    assert_eq!(
-        touched(&write(&[], Some(4))),
-        (0, vec![91, 99, 472, 475, 476, 479, 480, 483, 484, 548, 568])
-    );
+fn p19_a_cut_leaves_it_where_it_is() {
+    assert_eq!(touched(&write(&[], Some(4))), (0, vec![91, 472]));
     assert_eq!(
         touched(&write(&[], Some(0))),
-        (
-            0,
-            vec![
-                91, 99, 468, 469, 470, 471, 472, 475, 476, 479, 481, 482, 483, 484, 544, 545, 546,
-                547, 548, 564, 565, 566, 567, 568
-            ]
-        )
+        (0, vec![91, 468, 469, 470, 471, 472])
     );
     assert_eq!(touched(&write(&[], Some(5))), (0, vec![]));
 }
@@ -348,13 +370,352 @@ fn p19_a_cut_moves_it_back() {
 fn p20_what_is_cut_again_counts_for_nothing() {
     assert_eq!(
         touched(&write(&[(2, b"XYZ[")], Some(4))),
-        (
-            0,
-            vec![91, 99, 470, 471, 472, 475, 476, 479, 480, 483, 484, 548, 568]
-        )
+        (0, vec![91, 470, 471, 472])
     );
     assert_eq!(touched(&write(&[(9, b"X")], Some(5))), (0, vec![]));
     assert_eq!(touched(&write(&[(7, b"G")], None)), (11, vec![]));
+}
+
+/// What a request leaves: its number, the data, the slack and the used length.
+type Left<'a> = (u32, &'a [u8], usize, usize);
+
+/// Applies requests one after the other, each of which leaves what stands beside it.
+fn leaves(container: &mut [u8], steps: &[(Vec<u8>, Left)]) {
+    for (request, left) in steps {
+        let number = number(container, request);
+        let slack = field(container, 92) - 468 - field(container, 84);
+        assert_eq!((number, data(container), slack, used(container)), *left);
+    }
+}
+
+#[test]
+fn p30_up_to_the_slacks_end_a_write_takes_no_room() {
+    for (length, offset, bytes, left) in [
+        (485, 5, &b"FG"[..], (0, &b"ABCDEFG"[..], 6, 485)),
+        (485, 6, b"G", (0, b"ABCDE\0G", 6, 485)),
+        (485, 5, &[b'F'; 8], (0, b"ABCDEFFFFFFFF", 0, 485)),
+        (485, 5, &[b'F'; 9], (11, b"ABCDE", 8, 485)),
+        (486, 5, &[b'F'; 9], (0, b"ABCDEFFFFFFFFF", 0, 486)),
+        (486, 13, b"N", (0, b"ABCDE\0\0\0\0\0\0\0\0N", 0, 486)),
+    ] {
+        let mut container = with_data(length, b"ABCDE", 8);
+        assert_eq!(used(&container), 485);
+        leaves(&mut container, &[(write(&[(offset, bytes)], None), left)]);
+    }
+}
+
+#[test]
+fn p31_a_cut_leaves_slack() {
+    for steps in [
+        &[
+            (write(&[], Some(2)), (0, &b"AB"[..], 11, 485)),
+            (write(&[(4, b"Z")], None), (0, b"AB\0\0Z", 8, 485)),
+        ][..],
+        &[
+            (write(&[], Some(5)), (0, b"ABCDE", 8, 485)),
+            (write(&[], None), (0, b"ABCDE", 8, 485)),
+        ],
+        &[(write(&[(99, b"X")], Some(6)), (0, b"ABCDE\0", 7, 485))],
+    ] {
+        let mut container = with_data(485, b"ABCDE", 8);
+        assert_eq!(used(&container), 485);
+        leaves(&mut container, steps);
+    }
+}
+
+#[test]
+fn p32_a_fifth_lease_takes_no_slack() {
+    for (length, fifth, end, then) in [
+        (571, 11, 480, &[][..]),
+        (
+            572,
+            0,
+            572,
+            &[
+                (write(&[(0, b"AB")], None), (0, &b"AB"[..], 6, 572)),
+                (cancel(5), (0, b"AB", 6, 480)),
+            ],
+        ),
+    ] {
+        let mut container = with_data(length, b"", 8);
+        assert_eq!(used(&container), 480);
+        for owner in 1..=4 {
+            leaves(&mut container, &[(add(owner), (0, b"", 8, 480))]);
+        }
+        leaves(&mut container, &[(add(5), (fifth, b"", 8, end))]);
+        // With the lease and without, the data has its room up to the slack's end.
+        let all = write(&[(0, &[b'A'; 8])], None);
+        leaves(&mut container.clone(), &[(all, (0, b"AAAAAAAA", 0, end))]);
+        leaves(&mut container, then);
+    }
+}
+
+#[test]
+fn a_gap_where_count_and_extra_lease_stood_is_zero() {
+    for slack in [0, 8] {
+        let mut container = with_five_leases(800, slack);
+        let (count, end) = (field(&container, 92), used(&container));
+        let behind = container[count..end].to_vec();
+        assert_eq!(number(&mut container, &write(&[(150, b"Z")], None)), 0);
+        assert_eq!(data(&container)[..5], *b"ABCDE");
+        assert_eq!(data(&container)[5..], [&[0; 145][..], b"Z"].concat());
+        assert_eq!(field(&container, 92), 468 + 151);
+        assert_eq!(container[619..used(&container)], behind);
+    }
+}
+
+#[test]
+fn a_cut_and_a_write_again() {
+    let before = with_five_leases(571, 0);
+    let mut container = before.clone();
+    // The data that was cut, written again, is the container that was.
+    assert_eq!(number(&mut container, &write(&[], Some(1))), 0);
+    assert_eq!(data(&container), b"A");
+    assert_eq!(container[469..473], [0; 4]);
+    assert_eq!(container[473..], before[473..]);
+    assert_eq!(number(&mut container, &write(&[(1, b"BCDE")], None)), 0);
+    assert_eq!(container, before);
+}
+
+#[test]
+fn lease_requests_leave_the_slack() {
+    let before = with_five_leases(579, 8);
+    let touched = |request: &[u8]| touched_in(&before, request);
+    // The fifth lease stands from 485 on, its expiry from 489 on, and the count before it.
+    let renew = [&[3][..], &[5; 32], &[0, 0, 0, 9]].concat();
+    assert_eq!(touched(&renew), (0, vec![492]));
+    let changed = [vec![484, 488], (492..577).collect()].concat();
+    assert_eq!(touched(&cancel(5)), (0, changed));
+    // Another place is emptied, and taken by another lease.
+    let mut container = before.clone();
+    assert_eq!(number(&mut container, &cancel(1)), 0);
+    assert_eq!(number(&mut container, &add(6)), 0);
+    assert_eq!(container[468..], before[468..]);
+    assert_eq!(container[..100], before[..100]);
+    // No room for a sixth one.
+    assert_eq!(touched(&add(6)), (11, vec![]));
+}
+
+#[test]
+fn slack_is_no_data() {
+    let mut container = with_five_leases(579, 8);
+    let mut space = [9; 10];
+    let all = reads(&[(0, 13)]);
+    assert_eq!(apply(&mut container, &all, &mut space), (0, 9));
+    assert_eq!(space, *b"\0\0\0\x05ABCDE\x09");
+    let behind = reads(&[(5, 8)]);
+    assert_eq!(apply(&mut container, &behind, &mut space), (0, 4));
+    // A test of the data and two bytes more: what is there is `ABCDE`.
+    assert_eq!(
+        apply(&mut container, &test(3, b"ABCDE\0\0", b""), &mut space),
+        (8, 9)
+    );
+    assert_eq!(
+        apply(&mut container, &test(3, b"ABCDE", b""), &mut space),
+        (0, 9)
+    );
+}
+
+/// The outcome of a request for nothing, which the functions that only look give too.
+fn judged(container: &[u8]) -> u32 {
+    let nothing = [5, 0, 0, 0];
+    let number = number(&mut container.to_vec(), &nothing);
+    assert_eq!(ffi::read(container, &nothing, &mut []).number, number);
+    let refused = matches!(ffi::check_container(container).number, 1 | 2);
+    assert_eq!(refused, number != 0);
+    number
+}
+
+/// A container with other bytes at a place.
+fn put(container: &[u8], at: usize, bytes: &[u8]) -> Vec<u8> {
+    let mut container = container.to_vec();
+    container[at..at + bytes.len()].copy_from_slice(bytes);
+    container
+}
+
+#[test]
+fn p33_offset_fields_and_slack_bytes() {
+    let abcde = with_data(500, b"ABCDE", 0);
+    for (offset, number) in [
+        (472_u64, 2),
+        (473, 0),
+        (474, 0),
+        (496, 0),
+        (497, 2),
+        (18_446_744_073_709_551_612, 2),
+        (18_446_744_073_709_551_615, 2),
+    ] {
+        let bytes = put(&abcde, 92, &offset.to_be_bytes());
+        assert_eq!(judged(&bytes), number, "{offset}");
+    }
+    // 468 plus this size wraps to 0.
+    let size = 18_446_744_073_709_551_148_u64;
+    assert_eq!(judged(&put(&abcde, 84, &size.to_be_bytes())), 2);
+    // An extra lease up to the buffer's end, and up to a byte past it.
+    assert_eq!(judged(&with_five_leases(571, 2)), 0);
+    assert_eq!(judged(&with_five_leases(572, 3)[..571]), 2);
+    let beside_slack = with_data(500, b"ABCDE", 8);
+    assert_eq!(judged(&beside_slack), 0);
+    for at in [473, 477, 480] {
+        assert_eq!(judged(&put(&beside_slack, at, &[1])), 2, "{at}");
+    }
+}
+
+/// A container with another offset field, and count and extras there, as far as they fit.
+fn with_count_at(container: &[u8], offset: usize) -> Vec<u8> {
+    let (count, end) = (field(container, 92), used(container));
+    let mut bytes = container.to_vec();
+    bytes[count..end].fill(0);
+    let there = (end - count).min(bytes.len() - offset);
+    bytes[offset..offset + there].copy_from_slice(&container[count..count + there]);
+    put(&bytes, 92, &(offset as u64).to_be_bytes())
+}
+
+#[test]
+fn the_count_stands_behind_the_data_or_further_on() {
+    let without_extras = with_data(600, b"ABCDE", 0);
+    let with_extra = with_five_leases(600, 0);
+    for (container, last) in [(without_extras, 596), (with_extra, 504)] {
+        for (offset, number) in [
+            (472, 2),
+            (473, 0),
+            (474, 0),
+            (475, 0),
+            (480, 0),
+            (last - 1, 0),
+            (last, 0),
+            (last + 1, 2),
+            (last + 2, 2),
+        ] {
+            assert_eq!(
+                judged(&with_count_at(&container, offset)),
+                number,
+                "{offset}"
+            );
+        }
+        // Each byte of the slack counts.
+        for offset in [474, 475, 480, last] {
+            for at in 473..offset {
+                let bytes = put(&with_count_at(&container, offset), at, &[1]);
+                assert_eq!(judged(&bytes), 2, "{at} below {offset}");
+            }
+        }
+    }
+}
+
+#[test]
+fn fields_near_2_to_64_do_not_wrap() {
+    let container = with_five_leases(579, 8);
+    let with = |size: u64, offset: u64| {
+        let fields = [size.to_be_bytes(), offset.to_be_bytes()].concat();
+        put(&container, 84, &fields)
+    };
+    assert_eq!(judged(&with(5, 481)), 0);
+    // 468 plus size wraps to 0, to 473 and to the offset itself; count and extras wrap to 0, to the
+    // buffer's end, and not at all.
+    let below_2_to_64 = |below: u64| 0_u64.wrapping_sub(below);
+    for below in [
+        1, 2, 3, 4, 5, 92, 95, 96, 97, 463, 467, 468, 469, 472, 473, 479, 481,
+    ] {
+        assert_eq!(judged(&with(below_2_to_64(below), 481)), 2);
+        assert_eq!(judged(&with(5, below_2_to_64(below))), 2);
+        assert_eq!(judged(&with(below_2_to_64(below), below_2_to_64(1))), 2);
+        assert_eq!(
+            judged(&with(
+                below_2_to_64(below),
+                below_2_to_64(below).wrapping_add(468)
+            )),
+            2
+        );
+    }
+    // A sum that wraps ends where zeros stand up to the count.
+    for container in [fresh(472), fresh(500), with_count_at(&fresh(500), 480)] {
+        for below in 1..=468 {
+            let size = below_2_to_64(below).to_be_bytes();
+            assert_eq!(judged(&put(&container, 84, &size)), 2);
+        }
+    }
+    for high in [1 << 16, 1 << 31, 1 << 32, 1 << 63] {
+        assert_eq!(judged(&with(5 | high, 481)), 2);
+        assert_eq!(judged(&with(5, 481 | high)), 2);
+        assert_eq!(judged(&with(5 | high, 481 | high)), 2);
+    }
+}
+
+#[test]
+fn p34_beside_slack_only_a_write_past_it_moves_the_extra_lease() {
+    let before = with_five_leases(573, 2);
+    assert_eq!(used(&before), 571);
+    let touched = |request: &[u8]| touched_in(&before, request);
+    assert_eq!(touched(&write(&[(5, b"F")], None)), (0, vec![91, 473]));
+    assert_eq!(touched(&write(&[(6, b"G")], None)), (0, vec![91, 474]));
+    assert_eq!(
+        touched(&write(&[(5, b"FG")], None)),
+        (0, vec![91, 473, 474])
+    );
+    let mut past = vec![91, 99, 475, 478, 479, 482, 483, 486, 487, 551, 571];
+    assert_eq!(touched(&write(&[(7, b"H")], None)), (0, past.clone()));
+    past.splice(2..2, [473, 474]);
+    assert_eq!(touched(&write(&[(5, b"FGH")], None)), (0, past));
+    assert_eq!(touched(&write(&[(9, b"J")], None)), (11, vec![]));
+    assert_eq!(touched(&write(&[], Some(4))), (0, vec![91, 472]));
+    assert_eq!(
+        touched(&write(&[], Some(0))),
+        (0, vec![91, 468, 469, 470, 471, 472])
+    );
+    assert_eq!(touched(&write(&[(9, b"X")], Some(6))), (0, vec![91]));
+    assert_eq!(touched(&write(&[(9, b"X")], Some(5))), (0, vec![]));
+}
+
+/// What a request touches beside slack of eight bytes, from 473 to 481, with two bytes of room.
+fn touched_beside_slack(request: &[u8]) -> (u32, Vec<usize>) {
+    touched_in(&with_five_leases(579, 8), request)
+}
+
+#[test]
+fn beside_slack_a_write_from_inside_the_data_or_past_a_gap() {
+    let touched = touched_beside_slack;
+    assert_eq!(touched(&write(&[(1, b"XY")], None)), (0, vec![469, 470]));
+    // Exactly to the slack's end.
+    assert_eq!(
+        touched(&write(&[(4, b"EFGHIJKLM")], None)),
+        (0, vec![91, 473, 474, 475, 476, 477, 478, 479, 480])
+    );
+    // Across it: what moves are the bytes of P18, eight places on.
+    assert_eq!(
+        touched(&write(&[(11, b"LMN")], None)),
+        (
+            0,
+            vec![91, 99, 479, 480, 481, 484, 485, 488, 489, 492, 493, 557, 577]
+        )
+    );
+    // A byte past it, with all the room: the gap's last byte was the count's first, which is zero too.
+    assert_eq!(
+        touched(&write(&[(14, b"O")], None)),
+        (
+            0,
+            vec![91, 99, 482, 484, 486, 488, 490, 492, 493, 494, 557, 558, 577, 578]
+        )
+    );
+}
+
+#[test]
+fn beside_slack_what_is_cut_again_moves_nothing() {
+    let touched = touched_beside_slack;
+    assert_eq!(touched(&write(&[(20, b"X")], Some(4))), (0, vec![91, 472]));
+    let filled = write(&[(0, &[b'X'; 60])], Some(13));
+    let changed = [&[91][..], &(468..481).collect::<Vec<_>>()].concat();
+    assert_eq!(touched(&filled), (0, changed));
+    // A request without effect leaves the slack.
+    for request in [
+        write(&[], None),
+        write(&[], Some(5)),
+        write(&[], Some(6)),
+        write(&[(9, b"")], None),
+        write(&[(0, b"ABCDE")], None),
+    ] {
+        assert_eq!(touched(&request), (0, vec![]));
+    }
 }
 
 #[test]
@@ -427,6 +788,10 @@ fn the_share_in_a_container() {
     // A byte after the share inside the data is not the share's end.
     assert_eq!(number(&mut container, &write(&[(2043, b"\0")], None)), 0);
     assert_eq!(ffi::check_container(&container).number, 25);
+    // Cut away it is slack, which is no part of the share.
+    assert_eq!(number(&mut container, &write(&[], Some(2043))), 0);
+    assert_eq!(field(&container, 92), 468 + 2044);
+    assert_eq!(ffi::check_container(&container).number, 0);
 }
 
 /// A hash chain with these node numbers, and hashes of bytes 4.

@@ -31,36 +31,46 @@ const READ: c_int = 1;
 const READ_AND_WRITE: c_int = 3;
 const PRIVATE_AND_ANONYMOUS: c_int = 0x22;
 
-/// A container in pages of its own.
+/// A container in pages of its own, one more than it fills.
 struct Pages {
     start: *mut u8,
     page: usize,
+    /// How many bytes stand before the container.
+    before: usize,
 }
 
 impl Pages {
-    /// A container with six leases, two of them behind the data. The data ends where a page begins,
-    /// so many pages before the buffer's end.
-    fn with_data_up_to(before_the_end: usize) -> Pages {
+    /// A container in whose first pages a place of it begins a page.
+    fn with_page_at(place: usize) -> Pages {
+        // SAFETY: this asks for a number only.
+        let page = unsafe { getpagesize() } as usize;
         // SAFETY: no memory that is in use is asked for.
-        let (page, start) = unsafe {
-            let start = mmap(
+        let start = unsafe {
+            mmap(
                 std::ptr::null_mut(),
-                LENGTH,
+                LENGTH + page,
                 READ_AND_WRITE,
                 PRIVATE_AND_ANONYMOUS,
                 -1,
                 0,
-            );
-            (getpagesize() as usize, start)
+            )
         };
         assert_ne!(start as isize, -1, "no memory");
         let mut slot = Pages {
             start: start.cast(),
             page,
+            before: (page - place) % page,
         };
         assert!(slot.count() > 3, "pages of {page} bytes are too long");
         assert_eq!(ffi::create(slot.bytes(), &NODE, &ENABLER).number, 0);
-        let size = (slot.count() - before_the_end) * page - DATA;
+        slot
+    }
+
+    /// A container with six leases, two of them behind the data. The data ends where a page begins,
+    /// so many pages before the buffer's end.
+    fn with_data_up_to(before_the_end: usize) -> Pages {
+        let mut slot = Pages::with_page_at(0);
+        let size = (slot.count() - before_the_end) * slot.page - DATA;
         slot.done(&write(0, &vec![b'A'; size], None));
         for lease in 1..=6 {
             let mut add = vec![2, 0, 0, 0, lease, 0, 0, 0, 7];
@@ -78,7 +88,7 @@ impl Pages {
 
     fn bytes(&mut self) -> &mut [u8] {
         // SAFETY: the pages are mapped, and borrowed by nobody else.
-        unsafe { std::slice::from_raw_parts_mut(self.start, LENGTH) }
+        unsafe { std::slice::from_raw_parts_mut(self.start.add(self.before), LENGTH) }
     }
 
     fn size(&mut self) -> usize {
@@ -101,7 +111,7 @@ impl Pages {
 
     /// Sets the access of all pages but these.
     fn protect(&mut self, pages: &[usize], access: c_int) {
-        for page in (0..self.count()).filter(|page| !pages.contains(page)) {
+        for page in (0..=self.count()).filter(|page| !pages.contains(page)) {
             // SAFETY: this is a page of those that are mapped here, and nothing borrows it.
             let failed = unsafe {
                 let start = self.start.add(page * self.page);
@@ -115,7 +125,7 @@ impl Pages {
 impl Drop for Pages {
     fn drop(&mut self) {
         // SAFETY: nothing borrows the pages any longer.
-        unsafe { munmap(self.start.cast(), LENGTH) };
+        unsafe { munmap(self.start.cast(), LENGTH + self.page) };
     }
 }
 
@@ -161,7 +171,7 @@ fn a_write_inside_the_data_stores_to_its_own_bytes_alone() {
 }
 
 #[test]
-fn neither_growth_nor_a_cut_stores_behind_the_higher_used_end() {
+fn growth_does_not_store_behind_the_higher_used_end() {
     let mut slot = Pages::with_data_up_to(2);
     let (size, behind) = (slot.size(), slot.count() - 2);
     slot.done_on(
@@ -171,7 +181,75 @@ fn neither_growth_nor_a_cut_stores_behind_the_higher_used_end() {
             write(size + 300, b"K", None),
         ],
     );
-    slot.done_on(&[0, behind - 1, behind], &[write(0, b"", Some(size - 10))]);
-    let all_but_the_last: Vec<usize> = (0..=behind).collect();
-    slot.done_on(&all_but_the_last, &[write(0, b"", Some(0))]);
+}
+
+/// Count and leases behind the data stand in the page after what is cut.
+#[test]
+fn a_cut_stores_to_the_size_field_and_to_what_it_frees() {
+    let mut slot = Pages::with_data_up_to(2);
+    let (size, behind) = (slot.size(), slot.count() - 2);
+    slot.done_on(
+        &[0, behind - 1],
+        &[
+            write(0, b"", Some(size - 10)),
+            write(size - 30, &[b'L'; 100], Some(size - 20)),
+        ],
+    );
+    let before: Vec<usize> = (0..behind).collect();
+    slot.done_on(&before, &[write(0, b"", Some(0))]);
+}
+
+/// The slack goes from the first page up to the last one, in which count and leases stand.
+#[test]
+fn growth_inside_the_slack_stores_to_the_size_field_and_to_its_own_bytes() {
+    let mut slot = Pages::with_data_up_to(1);
+    let (size, last_of_slack) = (slot.size(), slot.count() - 2);
+    slot.done(&write(0, b"", Some(100)));
+    slot.done_on(
+        &[0],
+        &[write(100, &[b'M'; 64], None), write(200, b"N", None)],
+    );
+    // A gap of whole pages is zero as it is. The last write ends where the slack does.
+    slot.done_on(
+        &[0, last_of_slack],
+        &[
+            write(size - 500, &[b'O'; 64], None),
+            write(size - 1, b"P", None),
+        ],
+    );
+    assert_eq!(slot.size(), size);
+}
+
+#[test]
+fn beside_slack_a_write_inside_the_data_stores_to_its_own_bytes_alone() {
+    let mut slot = Pages::with_data_up_to(1);
+    let (size, last_of_data) = (slot.size(), slot.count() - 2);
+    slot.done(&write(0, b"", Some(size - 10)));
+    slot.done_on(
+        &[last_of_data],
+        &[
+            write(size - 64, &[b'Q'; 54], None),
+            // A size that there is only on the way reaches past the slack.
+            write(size - 64, &[b'R'; 100], Some(size - 10)),
+        ],
+    );
+    slot.done_on(&[], &[write(0, b"", Some(size)), write(size, b"", None)]);
+}
+
+/// The offset field begins a page, in which no byte is named where the count stays.
+#[test]
+fn where_the_count_stays_the_offset_field_is_not_stored_to() {
+    let mut slot = Pages::with_page_at(92);
+    let size = 3 * slot.page;
+    slot.done(&write(0, &vec![b'S'; size], None));
+    let last_of_data = 4;
+    slot.done_on(
+        &[0, last_of_data],
+        &[
+            write(0, b"", Some(size - 10)),
+            write(size - 10, &[b'T'; 5], None),
+            write(size - 7, &[b'U'; 7], None),
+            write(size - 20, &[b'V'; 9], Some(size - 12)),
+        ],
+    );
 }

@@ -1,5 +1,5 @@
-//! Dumps container files in words: fields, leases, data size and the share in it, or why the file is refused and at
-//! which byte.
+//! Dumps container files in words: fields, data size and slack, leases, the share in the data, or why the file is
+//! refused and at which byte.
 //!
 //! The exit code is 0 when every file holds a well-formed container, 1 when one is refused, and 2 when one cannot be
 //! read, the words cannot be written, or the command line is wrong.

@@ -67,7 +67,10 @@ fn fields(view: &View<'_>, shown: Shown, out: &mut impl Write) -> io::Result<()>
     writeln!(out, "  node id        {}", view.node_id())?;
     writeln!(out, "  write enabler  {enabler}")?;
     let size = bytes_in_words(view.data().len());
-    writeln!(out, "  data           {size} at byte {DATA}")
+    writeln!(out, "  data           {size} at byte {DATA}")?;
+    let slack = bytes_in_words(view.slack_len());
+    let data_end = DATA + view.data().len();
+    writeln!(out, "  slack          {slack} at byte {data_end}")
 }
 
 fn leases(view: &View<'_>, shown: Shown, out: &mut impl Write) -> io::Result<()> {
