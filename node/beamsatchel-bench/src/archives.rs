@@ -2,7 +2,8 @@
 //!
 //! Where the linker puts a loop moves its time by a tenth, and so does where a buffer lies. Each
 //! archive is therefore loaded at four places, every time 16 bytes further on, and all work in turn
-//! on the same buffers. A row gives the mean over the four.
+//! on the same buffers. Each begins there with a container as it was made, since one that follows
+//! other rules may refuse what another left. A row gives the mean over the four.
 
 #![allow(unsafe_code)]
 
@@ -231,11 +232,15 @@ pub fn against_each_other(archives: &[PathBuf]) -> Result<(), String> {
     for archive in archives {
         println!("  {}", archive.display());
     }
-    for (name, slot, requests) in work::rows() {
-        let player = RefCell::new(Player::new(&slot, &requests));
-        row(&name, &libraries, |library| {
+    for workload in work::rows() {
+        let player = RefCell::new(Player::new(&workload));
+        let play = |library: &Library| {
             player.borrow_mut().play(&|c, q, r| library.apply(c, q, r));
-        });
+        };
+        let begin = |library: &Library| {
+            player.borrow_mut().begin(&|c, q, r| library.apply(c, q, r));
+        };
+        row_from(&workload.name, &libraries, begin, play);
     }
     let share = work::share();
     row("check a bare share of 2,043 bytes", &libraries, |library| {
@@ -268,12 +273,17 @@ pub fn against_each_other(archives: &[PathBuf]) -> Result<(), String> {
 }
 
 fn row(name: &str, libraries: &[Library], call: impl Fn(&Library)) {
+    row_from(name, libraries, |_| {}, call);
+}
+
+/// A row whose samples each need something done before.
+fn row_from(name: &str, libraries: &[Library], begin: impl Fn(&Library), call: impl Fn(&Library)) {
     let call = &call;
     let mut sides: Vec<Side> = libraries
         .iter()
         .map(|library| Box::new(move || call(library)) as Side)
         .collect();
-    let times = contest(&mut sides);
+    let times = contest(&mut sides, |side| begin(&libraries[side]));
     let ratios: Vec<f64> = times.iter().map(|side| side.over(&times[0])).collect();
     let first = mean(&ratios[..PLACES]);
     print!("{name:<40}");

@@ -26,9 +26,13 @@ impl Samples {
     }
 }
 
-/// Times sides against each other. All are called equally often.
-pub fn contest(sides: &mut [Side]) -> Vec<Samples> {
-    let warm = sides.iter_mut().map(|side| time(side, WARM_UP));
+/// Times sides against each other. All are called equally often. What `ready` does for a side goes before each of its
+/// samples and is not timed.
+pub fn contest(sides: &mut [Side], mut ready: impl FnMut(usize)) -> Vec<Samples> {
+    let warm = sides.iter_mut().enumerate().map(|(side, called)| {
+        ready(side);
+        time(called, WARM_UP)
+    });
     let slowest = warm.fold(1.0, f64::max);
     let calls = (SAMPLE.as_nanos() as f64 / slowest).ceil() as u32;
     let count = sides.len();
@@ -43,6 +47,7 @@ pub fn contest(sides: &mut [Side]) -> Vec<Samples> {
                 count - 1 - turn
             };
             let side = (sample + place) % count;
+            ready(side);
             times[side].push(time(&mut sides[side], calls));
         }
     }

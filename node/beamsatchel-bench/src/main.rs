@@ -36,12 +36,12 @@ fn against_rust() {
         "{:<40} {:>9} {:>11} {:>6}",
         "", "library", "plain Rust", "ratio"
     );
-    for (name, slot, requests) in work::rows() {
+    for workload in work::rows() {
         // Each side has a container of its own.
-        let mut library = Player::new(&slot, &requests);
-        let mut rust = Player::new(&slot, &requests);
+        let mut library = Player::new(&workload);
+        let mut rust = Player::new(&workload);
         row(
-            &name,
+            &workload.name,
             || library.play(&|c, q, r| ffi::apply(c, q, r).number),
             || rust.play(&|c, q, r| fast::apply(c, q, r).number),
         );
@@ -81,7 +81,7 @@ fn against_rust() {
 /// One row of the table.
 fn row(name: &str, library: impl FnMut(), rust: impl FnMut()) {
     let mut sides: [Side; 2] = [Box::new(library), Box::new(rust)];
-    let times = contest(&mut sides);
+    let times = contest(&mut sides, |_| {});
     let (library, rust) = (times[0].median(), times[1].median());
     let ratio = times[0].over(&times[1]);
     println!("{name:<40} {library:>9.0} {rust:>11.0} {ratio:>6.2}");

@@ -58,7 +58,8 @@ impl Slot {
         })
     }
 
-    /// Writes 4 KiB that begin before and end after the data's end, and cuts that undo them.
+    /// Writes 4 KiB that begin before and end after the data's end, and cuts that undo them. The first cut leaves slack,
+    /// into which all later writes go.
     pub fn growth(&self, past: usize) -> Vec<Vec<u8>> {
         let offset = (self.size + past - 4096) as i32;
         let grow = checked().write(offset, &[b'C'; 4096]).expect("fits");
@@ -66,7 +67,7 @@ impl Slot {
         vec![grow.to_bytes(), cut.to_bytes()]
     }
 
-    /// As many appends of `count` bytes as there is room for, and the cut that undoes them all.
+    /// As many appends of `count` bytes as there is room for.
     pub fn appends(&self, count: usize) -> Vec<Vec<u8>> {
         let room = self.length - 472 - 2 * 92 - self.size;
         let body = vec![b'D'; count];
@@ -74,11 +75,17 @@ impl Slot {
             let offset = (self.size + number * count) as i32;
             checked().write(offset, &body).expect("fits").to_bytes()
         });
-        let cut = checked().cut(self.size as u32).to_bytes();
-        appends.chain([cut]).collect()
+        appends.collect()
     }
 
-    /// One write at the end, and the cut that undoes it, so that every second call is a cut.
+    /// The same, and the cut that undoes them all. The first one leaves slack, into which all later appends go.
+    pub fn cut_appends(&self, count: usize) -> Vec<Vec<u8>> {
+        let cut = checked().cut(self.size as u32).to_bytes();
+        self.appends(count).into_iter().chain([cut]).collect()
+    }
+
+    /// One write at the end, and the cut that undoes it, so that every second call is a cut. The first one leaves slack,
+    /// into which all later writes go.
     pub fn undone(&self, count: usize) -> Vec<Vec<u8>> {
         let grow = checked().write(self.size as i32, &vec![b'E'; count]);
         let cut = checked().cut(self.size as u32);
@@ -154,26 +161,56 @@ fn lease(number: u8) -> Lease {
     }
 }
 
-/// The rows of the benchmark: a name, the slot, and the requests that come in turn.
-pub fn rows() -> Vec<(String, Slot, Vec<Vec<u8>>)> {
+/// A row of the benchmark: a name, the slot, and the requests that come in turn.
+pub struct Workload {
+    pub name: String,
+    slot: Slot,
+    requests: Vec<Vec<u8>>,
+    put_back: bool,
+}
+
+impl Workload {
+    fn new(name: &str, slot: Slot, requests: Vec<Vec<u8>>) -> Workload {
+        Workload {
+            name: name.to_string(),
+            slot,
+            requests,
+            put_back: false,
+        }
+    }
+
+    /// Puts the slot back as it was after each round of requests, which only append, so that it never has slack.
+    fn put_back(self) -> Workload {
+        Workload {
+            put_back: true,
+            ..self
+        }
+    }
+}
+
+/// The rows of the benchmark.
+pub fn rows() -> Vec<Workload> {
     let long = || Slot::new(60 * 1024, 56 * 1024);
+    let row = |name, requests| Workload::new(name, long(), requests);
     let slot = long();
-    let mut rows: Vec<_> = [
-        ("write 4 KiB at random offsets", slot.writes(4096)),
-        ("write 4 KiB past the end, or cut it", slot.growth(2048)),
-        ("write 64 bytes at random offsets", slot.writes(64)),
-        ("append 64 bytes, 53 times, then cut them", slot.appends(64)),
-        (
+    let mut rows = vec![
+        row("write 4 KiB at random offsets", slot.writes(4096)),
+        row("write 4 KiB past the end, or cut it", slot.growth(2048)),
+        row("write 64 bytes at random offsets", slot.writes(64)),
+        row(
+            "append 64 bytes, 53 times, then cut them",
+            slot.cut_appends(64),
+        ),
+        row("append 64 bytes, 53 times, without slack", slot.appends(64)).put_back(),
+        row(
             "write 3,392 bytes at the end, or cut it",
             slot.undone(53 * 64),
         ),
-        ("read 4 KiB at random offsets", slot.reads(4096)),
-        ("renew the last of six leases", slot.renewals()),
-        ("add a lease, or cancel it", slot.lease_lives()),
-        ("a false test of 4 KiB", slot.false_tests(4096)),
-    ]
-    .map(|(name, requests)| (name.to_string(), long(), requests))
-    .into();
+        row("read 4 KiB at random offsets", slot.reads(4096)),
+        row("renew the last of six leases", slot.renewals()),
+        row("add a lease, or cancel it", slot.lease_lives()),
+        row("a false test of 4 KiB", slot.false_tests(4096)),
+    ];
     for kibibytes in [2, 8, 32, 64] {
         let length = kibibytes * 1024;
         // Half of the room is data.
@@ -184,7 +221,8 @@ pub fn rows() -> Vec<(String, Slot, Vec<Vec<u8>>)> {
             ("read 512 bytes", timed.reads(512)),
             ("renew a lease", timed.renewals()),
         ] {
-            rows.push((format!("{name}, {kibibytes} KiB"), slot(), requests));
+            let name = format!("{name}, {kibibytes} KiB");
+            rows.push(Workload::new(&name, slot(), requests));
         }
     }
     rows
@@ -277,27 +315,54 @@ pub type Apply<'a> = dyn Fn(&mut [u8], &[u8], &mut [u8]) -> u32 + 'a;
 /// A container, and the requests that are applied to it in turn.
 pub struct Player<'a> {
     pub container: Vec<u8>,
-    requests: &'a [Vec<u8>],
+    /// The container as it was made.
+    made: Vec<u8>,
+    workload: &'a Workload,
     reply: Vec<u8>,
     next: usize,
 }
 
 impl<'a> Player<'a> {
-    pub fn new(slot: &Slot, requests: &'a [Vec<u8>]) -> Player<'a> {
+    pub fn new(workload: &'a Workload) -> Player<'a> {
+        let made = workload.slot.container();
         Player {
-            container: slot.container(),
-            requests,
+            container: made.clone(),
+            made,
+            workload,
             reply: vec![0; REPLY_SPACE],
             next: 0,
+        }
+    }
+
+    /// Begins anew with the container as it was made, and a round of requests, which leaves slack and expiries as later
+    /// rounds find them.
+    pub fn begin(&mut self, apply: &Apply) {
+        self.container.copy_from_slice(&self.made);
+        self.next = 0;
+        for _ in 0..self.workload.requests.len() {
+            self.play(apply);
         }
     }
 
     /// Applies the next request, which is done or has a false test. Nothing of `apply` is known
     /// here, so neither side is compiled into its caller.
     pub fn play(&mut self, apply: &Apply) {
-        let request = &self.requests[self.next];
-        self.next = (self.next + 1) % self.requests.len();
+        if self.next == self.workload.requests.len() {
+            self.next = 0;
+            if self.workload.put_back {
+                self.put_back();
+            }
+        }
+        let request = &self.workload.requests[self.next];
+        self.next += 1;
         let number = black_box(apply)(&mut self.container, black_box(request), &mut self.reply);
         assert!(matches!(number, 0 | 8), "outcome {number}");
+    }
+
+    /// Puts back what appends change: the fields of size and offset, and all from the data's end on.
+    fn put_back(&mut self) {
+        for changed in [84..100, 468 + self.workload.slot.size..self.made.len()] {
+            self.container[changed.clone()].copy_from_slice(&self.made[changed]);
+        }
     }
 }
