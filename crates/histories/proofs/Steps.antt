@@ -16,9 +16,8 @@ use Rattle.rules.specs.Outcomes.{answerTo, replyTo, replyBytes, answered, conta
 use Rattle.rules.specs.Outcomes.{findRows}
 use Rattle.octets.specs.Rows.{firstRow}
 use Rattle.rules.proofs.RequestLaws.{Kinds, broken, tests, adds, renews, cancels, reads, kinds}
-use Rattle.rules.proofs.RequestLaws.{request-proper}
-use Rattle.rules.proofs.OutcomeLaws.{outcome-encode, answer-number, room-after, valid-after, earlyRows, early}
-use Rattle.rules.proofs.OutcomeLaws.{outcome-early}
+use Rattle.rules.proofs.OutcomeLaws.{outcome-encode, answer-number, room-after, leftParts, left-encode, left-valid}
+use Rattle.rules.proofs.OutcomeLaws.{earlyRows, early, outcome-early}
 use Rattle.histories.specs.Runs.{Call, Heard, hears, leaves, ruleOutcome, ruleHears, ruleLeaves, isLease}
 use Rattle.histories.specs.Runs.{isData, noRoom}
 use Rattle.histories.proofs.Follows.{Follows}
@@ -178,23 +177,12 @@ unfolding hears ruleHears ruleOutcome answered replyAfter
 hears-encode x p v = rw (outcome-encode p (x .request) (length (x .space)) v, parts-encode p v)
 
 leaves-encode : (x : Call) (p : Parts) → Valid p → leaves x (encode p) ≡ encode (ruleLeaves x p)
-unfolding leaves ruleLeaves ruleOutcome containerAfter
-leaves-encode x p v = rw (outcome-encode p (x .request) (length (x .space)) v, parts-encode p v)
-    (go (eqb (firstRow (requestRows p (requestOf (x .request)) (length (x .space)))) 0))
-  where
-    go : (b : Bool) → cond b (encode (afterOf p (requestOf (x .request)))) (encode p)
-        ≡ encode (cond b (afterOf p (requestOf (x .request))) p)
-    go true = refl
-    go false = refl
+unfolding leaves ruleLeaves ruleOutcome leftParts
+leaves-encode x p v = left-encode p (x .request) (x .space) v
 
 pub valid-left : (x : Call) (p : Parts) → Valid p → Valid (ruleLeaves x p)
-unfolding ruleLeaves ruleOutcome
-valid-left x p v = go (eqb (firstRow (requestRows p (requestOf (x .request)) (length (x .space)))) 0) refl
-  where
-    go : (b : Bool) → eqb (firstRow (requestRows p (requestOf (x .request)) (length (x .space)))) 0 ≡ b
-        → Valid (cond b (afterOf p (requestOf (x .request))) p)
-    go true e = valid-after p (requestOf (x .request)) (length (x .space)) v (request-proper (x .request)) e
-    go false e = v
+unfolding ruleLeaves ruleOutcome leftParts
+valid-left x p v = left-valid p (x .request) (length (x .space)) v
 
 pub follows : Follows Valid encode ruleHears ruleLeaves hears leaves
 follows = record { answer = hears-encode; after = leaves-encode; lasts = valid-left }

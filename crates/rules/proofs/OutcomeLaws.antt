@@ -15,12 +15,12 @@ use Rattle.octets.proofs.ListLaws.{both}
 use Rattle.format.proofs.RoundTrip.{encode-formed, parts-encode}
 use Rattle.rules.specs.Requests.{Request, testWrite, add, renew, cancel, read, requestOf}
 use Rattle.rules.specs.Outcomes.{withBytes, withLeases, after, afterOf, rows, roomRows, requestRows, outcome}
-use Rattle.rules.specs.Outcomes.{answerTo, answered, replies, replyBytes, replyAfter}
+use Rattle.rules.specs.Outcomes.{answerTo, answered, replies, replyBytes, replyAfter, containerAfter}
 use Rattle.rules.specs.Claims.{SameReply}
 use Rattle.octets.specs.Lists.{maybe}
 use Rattle.octets.specs.Rows.{Row, row, firstRow}
 use Rattle.rules.proofs.Kept.{after-valid}
-use Rattle.rules.proofs.RequestLaws.{ProperOption}
+use Rattle.rules.proofs.RequestLaws.{ProperOption, request-proper}
 
 pub formed-length : (c : List ℕ) → wellFormed c ≡ true → lengthAllowed c ≡ true
 unfolding wellFormed
@@ -61,6 +61,27 @@ pub valid-after : (p : Parts) (r : Option Request) (n : ℕ) → Valid p → Pro
 unfolding requestRows afterOf maybe
 valid-after p none n v q e = v
 valid-after p (some r) n v q e = after-valid p r n v q (eqb-true _ _ e)
+
+-- the parts that a request leaves, done or refused; the bytes that it leaves are theirs
+unfoldable pub leftParts : Parts → List ℕ → ℕ → Parts
+leftParts p q n = cond (eqb (firstRow (requestRows p (requestOf q) n)) 0) (afterOf p (requestOf q)) p
+
+pub left-encode : (p : Parts) (q r : List ℕ) → Valid p → containerAfter (encode p) q r ≡ encode (leftParts p q (length r))
+unfolding leftParts containerAfter
+left-encode p q r v = rw (outcome-encode p q (length r) v, parts-encode p v)
+    (go (eqb (firstRow (requestRows p (requestOf q) (length r))) 0))
+  where
+    go : (b : Bool) → cond b (encode (afterOf p (requestOf q))) (encode p) ≡ encode (cond b (afterOf p (requestOf q)) p)
+    go true = refl
+    go false = refl
+
+pub left-valid : (p : Parts) (q : List ℕ) (n : ℕ) → Valid p → Valid (leftParts p q n)
+unfolding leftParts
+left-valid p q n v = go (eqb (firstRow (requestRows p (requestOf q) n)) 0) refl
+  where
+    go : (b : Bool) → eqb (firstRow (requestRows p (requestOf q) n)) 0 ≡ b → Valid (cond b (afterOf p (requestOf q)) p)
+    go true e = valid-after p (requestOf q) n v (request-proper q) e
+    go false e = v
 
 -- a request's number without its room row
 unfoldable pub earlyRows : Parts → Option Request → ℕ → List Row
