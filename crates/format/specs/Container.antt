@@ -10,7 +10,7 @@ use Rattle.octets.specs.Rows.{Row, row}
 use Rattle.format.specs.Layout.{magic, nodeAt, fixedPlaces, extraLimit, countAt, least, limit, extrasOf}
 use Rattle.format.specs.Layout.{dataEnd, usedEnd, slackOf, leasesOf, ownerOf}
 
--- Buffer length is 472 to 65,536 (F1).
+-- Buffer length is 472 to 16,777,216 (F1).
 unfoldable pub lengthAllowed : List ℕ → Bool
 lengthAllowed c = leb least (length c) && leb (length c) limit
 

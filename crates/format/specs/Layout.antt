@@ -84,7 +84,7 @@ abbrev pub least : ℕ
 least = dataAt + countSize
 
 abbrev pub limit : ℕ
-limit = 65536
+limit = 16777216
 
 -- The fields: node id, write enabler, data size s, data, the count's place, extra-lease count e (C2 to C8).
 unfoldable pub nodeOf : List ℕ → List ℕ

@@ -50,7 +50,7 @@ pub const DATA_AT: usize = LEASES_AT + FIXED_PLACES * RECORD_SIZE;
 // The shortest buffer, and the longest.
 pub const LEAST: usize = DATA_AT + COUNT_SIZE;
 
-pub const LIMIT: usize = 65536;
+pub const LIMIT: usize = 16777216;
 
 // What judging a container finds: the data size, the offset of the extra-lease count, and the number of extra leases.
 pub struct Frame {

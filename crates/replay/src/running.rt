@@ -5,7 +5,6 @@ use crate::reporting::Why;
 use crate::showing;
 use crate::showing::clip;
 use crate::showing::clip_both;
-use format::layout::LIMIT;
 use replaying::commands;
 use replaying::commands::Argument;
 use replaying::commands::Command;
@@ -15,11 +14,13 @@ use replaying::items::Fault;
 use replaying::items::Put;
 use replaying::scanning;
 use replaying::scanning::Sort;
+use requests::forms::REQUEST_LIMIT;
 ghost use Prim.Native.Nat.{_≤_};
 ghost use lib.ListN.{length};
 
-// A little more than the limit, so that a container and a request that are one byte too long can be replayed.
-const BUFFER_SIZE: usize = LIMIT + 4;
+// A little more than a request may have, so that one that is a byte too long can be replayed. The containers of a replay
+// have as much, which is far below their own limit.
+const BUFFER_SIZE: usize = REQUEST_LIMIT + 4;
 
 // The longest reply space that a line can name.
 const REPLY_SIZE: usize = 8192;

@@ -59,7 +59,7 @@ module _ (z : ℤ) (size : ℕ) (f : SFits w32 z) where
       → _≡_ {A = Resolved} (record { resolves = true; position = natAbs (toZ w32 (ofZ w32 z)) }) (resolvedOf z size)
   resolved-above e = rw (toZ-ofZ w32 z f) (above-is z size (rw (toZ-ofZ w32 z f) at e))
 
--- ---- how large a number of n bytes is
+-- ---- how large a number of n bytes is: 2^16 and 2^32 are bounds of their fields, and no limits
 pub specimen-below : (p : ℕ) (q : List ℕ) → Octets q → entrySpecimen p q < 65536
 unfolding entrySpecimen
 specimen-below p q h = numberAt-below 2 (p + (paddingAt + 1)) q h

@@ -70,7 +70,7 @@ far-cut = no-gap (placed far 0) (some 10) [] ∙ rw far-size far-clipped
 -- What computing gives. P6 is computed over any writes whose result is known: its own bytes are too many to write out.
 record Computed : Type 0 where
   p1 : map result (take 2 (cases [])) ≡ take 2 results
-  p1-long : (long : List ℕ) → length long ≡ 65537 →
+  p1-long : (long : List ℕ) → length long ≡ 16777217 →
       map result (take 1 (drop 2 (cases long))) ≡ take 1 (drop 2 results)
   p2-to-p5 : map result (take 7 (drop 3 (cases []))) ≡ take 7 (drop 3 results)
   far-request :

@@ -119,7 +119,7 @@ abbrev pub gives : ℕ → List ℕ → List ℕ → List ℕ → Outcome
 gives n ns d u = record { created = n; answers = ns; bytes = d; used = u }
 
 -- The table: P1 (three cases), P2 (three), P3, P4, P5 (two), P6 (two), P7 (two), P8 (two), P9, P10. `long` stands for
--- any buffer of 65,537 bytes.
+-- any buffer of 16,777,217 bytes.
 abbrev pub cases : List ℕ → List Case
 cases long =
     given 472 []
@@ -508,7 +508,7 @@ filled =
 -- The claim of the tables.
 pub record EdgesHold : Type 0 where
   -- every case gives its result
-  pub table : (long : List ℕ) → length long ≡ 65537 → map result (cases long) ≡ results
+  pub table : (long : List ℕ) → length long ≡ 16777217 → map result (cases long) ≡ results
   -- the whole request on empty data is done, with four bytes of reply
   pub whole-size : length request62 ≡ 62
   pub whole-answer : answered empty request62 nines ≡ answerOf 0 noNode 4

@@ -7,7 +7,7 @@ use std::ops::RangeInclusive;
 pub const MAGIC: [u8; 32] = *b"tahoe mutable container v1\x0A\x75\x09\x44\x03\x8E";
 
 /// The lengths that a buffer may have.
-pub const LENGTHS: RangeInclusive<usize> = 472..=65_536;
+pub const LENGTHS: RangeInclusive<usize> = 472..=16_777_216;
 
 /// The lease record: the five fields in the order in which they lie. Owner 0 means none.
 #[derive(Clone, Debug, PartialEq, Eq)]

@@ -10,7 +10,7 @@ mod share;
 pub use new_share::write_share;
 pub use share::{check_container, check_share};
 
-use super::{Answer, LENGTHS};
+use super::{Answer, LENGTHS, LONGEST_REQUEST};
 use frame::Frame;
 
 /// Applies a request, as the model's `apply` does.
@@ -21,7 +21,7 @@ pub fn apply(buffer: &mut [u8], request: &[u8], reply: &mut [u8]) -> Answer {
     let Some(frame) = Frame::find(buffer) else {
         return Answer::refused(2);
     };
-    if request.len() > 65_536 {
+    if request.len() > LONGEST_REQUEST {
         return Answer::refused(3);
     }
     match request.first() {

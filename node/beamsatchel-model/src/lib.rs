@@ -20,5 +20,5 @@ pub use apply::apply;
 pub use container::{Container, Lease, LENGTHS, MAGIC};
 pub use create::create;
 pub use new_share::{write_share, NewShare, WrittenShare};
-pub use request::{Read, Request, Test, TestAndWrite, Write};
+pub use request::{Read, Request, Test, TestAndWrite, Write, LONGEST_REQUEST};
 pub use share::{check_container, check_share, Share};

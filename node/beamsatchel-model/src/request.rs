@@ -3,6 +3,9 @@
 use super::bytes::array_at;
 use super::Lease;
 
+/// The most bytes of a request.
+pub const LONGEST_REQUEST: usize = 65_536;
+
 #[derive(Clone, Debug, PartialEq, Eq)]
 pub enum Request {
     TestAndWrite(TestAndWrite),
@@ -44,8 +47,7 @@ pub struct Read {
 
 impl Request {
     pub fn from_bytes(request: &[u8]) -> Option<Request> {
-        // The longest request.
-        if request.len() > 65_536 {
+        if request.len() > LONGEST_REQUEST {
             return None;
         }
         let mut rest = Rest(request);

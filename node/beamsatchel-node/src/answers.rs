@@ -23,7 +23,7 @@ use std::fmt;
 #[non_exhaustive]
 #[repr(u8)]
 pub enum Reason {
-    /// 1: the container's buffer is not 472 to 65,536 bytes long.
+    /// 1: the container's buffer is not 472 to 16,777,216 bytes long.
     BufferLength = 1,
     /// 2: the container is not well formed; [`Fault`](crate::Fault) tells where.
     NotWellFormed = 2,
@@ -104,7 +104,7 @@ impl Reason {
     /// What it means, in a sentence.
     pub const fn sentence(self) -> &'static str {
         match self {
-            Reason::BufferLength => "The container's buffer is not 472 to 65,536 bytes long.",
+            Reason::BufferLength => "The container's buffer is not 472 to 16,777,216 bytes long.",
             Reason::NotWellFormed => "The buffer does not hold a well-formed container.",
             Reason::RequestFormat => "The request breaks its format.",
             Reason::NegativeOffset => "Some offset is negative.",

@@ -93,7 +93,7 @@ impl Lease {
     }
 }
 
-/// A slot container in a buffer of 472 to 65,536 bytes.
+/// A slot container in a buffer of 472 to 16,777,216 bytes.
 ///
 /// The buffer may be lent for writing (`&mut [u8]`), lent for reading (`&[u8]`), or owned (`Vec<u8>`,
 /// `Box<[u8]>`, an array): what needs no writing asks for no `&mut`.

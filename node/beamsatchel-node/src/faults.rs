@@ -16,7 +16,7 @@ use std::fmt;
 #[derive(Clone, Copy, Debug, PartialEq, Eq, Hash)]
 #[non_exhaustive]
 pub enum Clause {
-    /// The buffer is 472 to 65,536 bytes long. This one has an outcome of its own.
+    /// The buffer is 472 to 16,777,216 bytes long. This one has an outcome of its own.
     BufferLength,
     /// The buffer begins with the magic.
     Magic,
@@ -40,7 +40,7 @@ pub enum Clause {
 impl fmt::Display for Clause {
     fn fmt(&self, f: &mut fmt::Formatter<'_>) -> fmt::Result {
         f.write_str(match self {
-            Clause::BufferLength => "the buffer is not 472 to 65,536 bytes long",
+            Clause::BufferLength => "the buffer is not 472 to 16,777,216 bytes long",
             Clause::Magic => "the magic is not a container's",
             Clause::CountOffset => {
                 "the offset of the extra-lease count is below 468 plus the data size at byte 84"

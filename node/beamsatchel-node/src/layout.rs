@@ -27,7 +27,7 @@ pub const MAX_EXTRAS: usize = 60;
 /// The least bytes of a container's buffer.
 pub const MIN_LENGTH: usize = 472;
 /// The most bytes of a container's buffer.
-pub const MAX_LENGTH: usize = 65_536;
+pub const MAX_LENGTH: usize = 16_777_216;
 
 /// The header of an SDMF share.
 pub mod share {

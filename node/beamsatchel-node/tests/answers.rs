@@ -12,7 +12,7 @@ use common::{fresh, new_share, ENABLER, NODE};
 
 /// Every reason with its number and what it says.
 const REASONS: [(Reason, u32, &str); 20] = [
-    (Reason::BufferLength, 1, "The container's buffer is not 472 to 65,536 bytes long."),
+    (Reason::BufferLength, 1, "The container's buffer is not 472 to 16,777,216 bytes long."),
     (Reason::NotWellFormed, 2, "The buffer does not hold a well-formed container."),
     (Reason::RequestFormat, 3, "The request breaks its format."),
     (Reason::NegativeOffset, 4, "Some offset is negative."),

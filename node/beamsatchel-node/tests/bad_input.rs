@@ -6,7 +6,11 @@ mod common;
 use beamsatchel_model as model;
 use beamsatchel_node::ffi::{self, ShareArguments};
 
-const LENGTHS: [usize; 8] = [0, 1, 471, 472, 473, 65_535, 65_536, 65_537];
+const LENGTHS: [usize; 8] = [0, 1, 471, 472, 473, 65_537, LONGEST, LONGEST + 1];
+/// The most bytes of a container's buffer.
+const LONGEST: usize = 16_777_216;
+/// The most bytes of a request.
+const LONGEST_REQUEST: usize = 65_536;
 const ENABLER: [u8; 32] = [0xEE; 32];
 
 /// Buffers of each length: zeros, ones, and a container's bytes as far as they go.
@@ -15,7 +19,7 @@ fn buffers() -> Vec<Vec<u8>> {
     for length in LENGTHS {
         buffers.push(vec![0; length]);
         buffers.push(vec![0xFF; length]);
-        let mut container = vec![0; length.clamp(472, 65_536)];
+        let mut container = vec![0; length.clamp(472, LONGEST)];
         assert_eq!(model::create(&mut container, &[7; 20], &ENABLER).number, 0);
         container.resize(length, 0);
         buffers.push(container);
@@ -23,10 +27,20 @@ fn buffers() -> Vec<Vec<u8>> {
     buffers
 }
 
-/// Requests of 0 and 65,537 bytes and between, of each kind.
-fn requests() -> Vec<Vec<u8>> {
+/// Requests of 0 and 65,537 bytes and between, of each kind; beside a long buffer fewer, since each costs a pass over it.
+fn requests(buffer: &[u8]) -> impl Iterator<Item = Vec<u8>> {
+    let all = all_requests();
+    let step = if buffer.len() < 100_000 {
+        1
+    } else {
+        all.len() / 9
+    };
+    all.into_iter().step_by(step)
+}
+
+fn all_requests() -> Vec<Vec<u8>> {
     let mut requests = vec![Vec::new()];
-    for length in [1, 4, 33, 37, 40, 93, 65_536, 65_537] {
+    for length in [1, 4, 33, 37, 40, 93, LONGEST_REQUEST, LONGEST_REQUEST + 1] {
         for kind in 0..=6 {
             let mut request = vec![0; length];
             request[0] = kind;
@@ -44,8 +58,8 @@ fn requests() -> Vec<Vec<u8>> {
     let mut longest = vec![1, 0, 1, 1, 0, 0, 0, 0];
     longest.extend(ENABLER);
     longest.extend([0; 4]);
-    longest.extend((65_536_u32 - 48).to_be_bytes());
-    for length in [65_536, 65_537] {
+    longest.extend((LONGEST_REQUEST as u32 - 48).to_be_bytes());
+    for length in [LONGEST_REQUEST, LONGEST_REQUEST + 1] {
         longest.resize(length, 0);
         requests.push(longest.clone());
     }
@@ -56,7 +70,7 @@ fn requests() -> Vec<Vec<u8>> {
 fn apply_takes_any_lengths() {
     let mut met = [0; 13];
     for buffer in buffers() {
-        for request in requests() {
+        for request in requests(&buffer) {
             for space in [0, 1, 65_537] {
                 let (mut container, mut reply) = (buffer.clone(), vec![0xA5; space]);
                 let (mut by_model, mut reply_by_model) = (buffer.clone(), reply.clone());
@@ -83,7 +97,7 @@ fn apply_takes_any_lengths() {
 fn read_takes_any_lengths() {
     let mut met = [0; 13];
     for buffer in buffers() {
-        for request in requests() {
+        for request in requests(&buffer) {
             let taken = match request.first() {
                 Some(5) => &request[..],
                 _ => &[],

@@ -45,7 +45,7 @@ fn a_lease_is_its_record() {
 
 #[test]
 fn create_writes_the_whole_buffer() {
-    for length in [472, 473, 65_536] {
+    for length in [472, 473, 65_537, 16_777_216] {
         let mut by_model = vec![0xAA; length];
         let answer = model::create(&mut by_model, &NODE.0, ENABLER.expose());
         assert_eq!(answer.number, 0);
@@ -56,7 +56,7 @@ fn create_writes_the_whole_buffer() {
 
 #[test]
 fn create_refuses_and_leaves_the_buffer() {
-    for length in [0, 471, 65_537] {
+    for length in [0, 471, 16_777_217] {
         let mut bytes = vec![0x55; length];
         let refused = Container::create(&mut bytes[..], NODE, ENABLER);
         assert_eq!(reason(refused), Reason::BufferLength);
@@ -74,7 +74,7 @@ fn open_asks_for_a_container_alone() {
     assert_eq!(reason(Container::open(&[][..])), Reason::BufferLength);
     assert_eq!(reason(Container::open([0; 471])), Reason::BufferLength);
     assert_eq!(
-        reason(Container::open(vec![0; 65_537])),
+        reason(Container::open(vec![0; 16_777_217])),
         Reason::BufferLength
     );
     assert_eq!(reason(Container::open([0; 472])), Reason::NotWellFormed);

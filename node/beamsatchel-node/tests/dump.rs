@@ -127,9 +127,9 @@ fn data_is_shown_when_asked_for() {
     assert_eq!(data.len(), 35);
     let (words, code) = dump("data", &["--data"], &slot(2000, data));
     let rows = "
-        0  00 1f 20 21 41 5a 61 7a 7d 7e 7f 80 ff 30 39 7c  |.. !AZaz}~...09||
-       16  73 65 63 6f 6e 64 20 72 6f 77 20 31 36 20 62 2e  |second row 16 b.|
-       32  65 6e 64                                         |end|
+         0  00 1f 20 21 41 5a 61 7a 7d 7e 7f 80 ff 30 39 7c  |.. !AZaz}~...09||
+        16  73 65 63 6f 6e 64 20 72 6f 77 20 31 36 20 62 2e  |second row 16 b.|
+        32  65 6e 64                                         |end|
 ";
     assert!(words.ends_with(rows), "{words}");
     assert_eq!(code, 0);
@@ -206,7 +206,7 @@ fn slack_is_told_of() {
     }
     // It is no data.
     let (words, _) = dump("slack", &["--data"], &cut(with_data(500, b"abc"), 1));
-    let row = format!("        0  {:<47}  |a|\n", "61");
+    let row = format!("         0  {:<47}  |a|\n", "61");
     assert!(words.ends_with(&format!("at byte 469\n{row}")), "{words}");
 }
 
@@ -302,8 +302,8 @@ fn refused_files_name_the_byte() {
 
 fn refused_length(byte: usize, length: &str) -> String {
     format!(
-        "  refused with outcome 1: The container's buffer is not 472 to 65,536 bytes long.
-  at byte {byte}: the buffer is not 472 to 65,536 bytes long
+        "  refused with outcome 1: The container's buffer is not 472 to 16,777,216 bytes long.
+  at byte {byte}: the buffer is not 472 to 16,777,216 bytes long
   buffer         {length}
 "
     )
@@ -318,15 +318,17 @@ fn files_of_no_allowed_length() {
         dump(&fresh(472)[..471]),
         (refused_length(471, "471 bytes"), 1)
     );
-    let too_long = refused_length(65_536, "more than 65536 bytes");
-    let mut bytes = fresh(65_536);
+    let too_long = refused_length(16_777_216, "more than 16777216 bytes");
+    let mut bytes = fresh(16_777_216);
     assert_eq!(dump(&bytes).1, 0);
     // The longest is told by its length also where it is refused.
     bytes[0] = 0;
-    assert!(dump(&bytes).0.ends_with("\n  buffer         65536 bytes\n"));
+    assert!(dump(&bytes)
+        .0
+        .ends_with("\n  buffer         16777216 bytes\n"));
     bytes.push(0);
     assert_eq!(dump(&bytes), (too_long.clone(), 1));
-    bytes.resize(1 << 20, 0);
+    bytes.resize(1 << 25, 0);
     assert_eq!(dump(&bytes), (too_long, 1));
 }
 
@@ -337,7 +339,7 @@ fn a_file_without_end() {
         .args(["-c", "ulimit -v 1000000 && exec \"$0\" /dev/zero"])
         .arg(env!("CARGO_BIN_EXE_beamsatchel-dump"))
         .output();
-    let too_long = refused_length(65_536, "more than 65536 bytes");
+    let too_long = refused_length(16_777_216, "more than 16777216 bytes");
     let expected = format!("\"/dev/zero\"\n{too_long}");
     assert_eq!(ends(output.unwrap()), (expected, String::new(), 1));
 }
@@ -352,7 +354,7 @@ fn no_more_is_read_than_needed() {
     let both_ends = File::options().read(true).write(true).open(&fifo);
     let mut both_ends = both_ends.unwrap();
     let mut writer = both_ends.try_clone().unwrap();
-    let sent: Vec<u8> = (0..67_000_u32).map(|at| at as u8).collect();
+    let sent: Vec<u8> = (0..16_779_000_u32).map(|at| at as u8).collect();
     let to_send = sent.clone();
     // It is more than a pipe holds, and would wait for ever if nobody read it.
     let writing = thread::spawn(move || writer.write_all(&to_send).unwrap());
@@ -363,9 +365,9 @@ fn no_more_is_read_than_needed() {
         .output();
     assert_eq!(ends(output.unwrap()).2, 1);
     writing.join().unwrap();
-    let mut left = [0; 67_000];
+    let mut left = [0; 2_000];
     let count = both_ends.read(&mut left).unwrap();
-    assert_eq!(left[..count], sent[65_537..]);
+    assert_eq!(left[..count], sent[16_777_217..]);
 }
 
 #[test]

@@ -101,7 +101,7 @@ fn with_data(length: usize, data: &[u8], slack: usize) -> Vec<u8> {
 
 #[test]
 fn p1_buffer_lengths() {
-    for (length, number) in [(471, 1), (472, 0), (65_536, 0), (65_537, 1)] {
+    for (length, number) in [(471, 1), (472, 0), (16_777_216, 0), (16_777_217, 1)] {
         assert_eq!(
             ffi::create(&mut vec![0; length], &NODE, &ENABLER).number,
             number

@@ -39,7 +39,8 @@ fn with_size(bytes: Vec<u8>, size: u64) -> Vec<u8> {
 fn a_container_has_no_fault() {
     for bytes in [
         fresh(472),
-        fresh(65_536),
+        fresh(65_537),
+        fresh(16_777_216),
         good(),
         with_data(482, &[1; 10]),
         cut(good(), 4),
@@ -55,10 +56,10 @@ fn the_length() {
         (0, 0),
         (1, 1),
         (471, 471),
-        (65_537, 65_536),
-        (70_000, 65_536),
+        (16_777_217, 16_777_216),
+        (17_000_000, 16_777_216),
     ] {
-        let mut bytes = fresh(length.clamp(472, 65_536));
+        let mut bytes = fresh(length.clamp(472, 16_777_216));
         bytes.resize(length, 0);
         assert_eq!(find(&bytes), Some((Clause::BufferLength, byte)));
     }
@@ -218,8 +219,8 @@ fn the_first_clause_counts() {
 /// What is at an edge but allowed is not taken for the fault, where a later clause fails.
 #[test]
 fn edges_before_the_fault() {
-    let last = with(fresh(65_536), 65_535, &[1]);
-    assert_eq!(find(&last), Some((Clause::AfterUsedEnd, 65_535)));
+    let last = with(fresh(16_777_216), 16_777_215, &[1]);
+    assert_eq!(find(&last), Some((Clause::AfterUsedEnd, 16_777_215)));
     let shortest = with(fresh(472), 467, &[1]);
     assert_eq!(find(&shortest), Some((Clause::EmptyPlace, 467)));
     // Data, and slack, up to the last byte but the count.
@@ -263,7 +264,7 @@ fn faults_in_words() {
     let words = [
         (
             Clause::BufferLength,
-            "the buffer is not 472 to 65,536 bytes long",
+            "the buffer is not 472 to 16,777,216 bytes long",
         ),
         (Clause::Magic, "the magic is not a container's"),
         (

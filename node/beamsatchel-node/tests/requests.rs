@@ -247,11 +247,11 @@ fn what_a_builder_refuses() {
 }
 
 /// The longest data that there can be.
-const LONGEST: usize = 65_536 - 472;
+const LONGEST: usize = 16_777_216 - 472;
 
 #[test]
 fn a_read_may_need_all_of_its_bound() {
-    let slot = Container::open(with_data(65_536, &vec![1; LONGEST])).unwrap();
+    let slot = Container::open(with_data(16_777_216, &vec![1; LONGEST])).unwrap();
     assert_eq!(ReadData::new().reply_bound(), 0);
     let one = ReadData::new().read(3, 258).unwrap();
     assert_eq!(one.reply_bound(), 4 + 258);
@@ -280,7 +280,7 @@ fn a_read_may_need_all_of_its_bound() {
 
 #[test]
 fn a_test_may_need_all_of_its_bound() {
-    let mut slot = Container::open(with_data(65_536, &vec![1; LONGEST])).unwrap();
+    let mut slot = Container::open(with_data(16_777_216, &vec![1; LONGEST])).unwrap();
     let new = || TestAndWrite::new(ENABLER);
     assert_eq!(new().write(0, b"no test").unwrap().reply_bound(), 0);
     let one = new().test(3, 258, Opcode::Greater, b"").unwrap();

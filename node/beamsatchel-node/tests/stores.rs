@@ -8,7 +8,7 @@ use std::ffi::{c_int, c_long, c_void};
 
 const NODE: [u8; 20] = [7; 20];
 const ENABLER: [u8; 32] = [0xEE; 32];
-/// The longest container.
+/// A container of many pages, whose data one request can fill.
 const LENGTH: usize = 65_536;
 /// Where a container's data begins.
 const DATA: usize = 468;

@@ -51,11 +51,11 @@ pub fn run(cases: u64, rng: &mut Rng, checker: &mut Checker) {
 /// The same container with other slack, and another length.
 fn apart(rng: &mut Rng, container: &Container) -> Container {
     let used = container.used() as usize - container.slack;
-    let slack = containers::slack(rng).min(65_536 - used);
+    let slack = containers::slack(rng).min(containers::MAX_LENGTH - used);
     let room = rng.pick(&[0, 1, 92, 200, 1000]);
     Container {
         slack,
-        length: (used + slack + room).min(65_536),
+        length: (used + slack + room).min(containers::MAX_LENGTH),
         ..container.clone()
     }
 }

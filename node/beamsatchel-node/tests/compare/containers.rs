@@ -3,7 +3,8 @@
 use crate::rng::Rng;
 use beamsatchel_model::{Container, Lease};
 
-const MAX_LENGTH: usize = 65_536;
+/// The most bytes of the buffers here, for the sake of time; `long` has the longer ones.
+pub const MAX_LENGTH: usize = 65_536;
 
 /// Tokens are few, so that requests meet them, several leases have the same, and the zero token
 /// occurs.
@@ -46,7 +47,7 @@ pub struct Sizes {
     pub slack: usize,
     /// Extra places.
     pub extras: usize,
-    /// Bytes behind the extras, as far as the longest buffer has them.
+    /// Bytes behind the extras, as far as `MAX_LENGTH` goes.
     pub room: usize,
 }
 
@@ -249,18 +250,9 @@ fn damage_slack(rng: &mut Rng, container: &Container, bytes: &mut [u8]) {
     bytes[rng.pick(&[first, last, anywhere])] = rng.not_zero();
 }
 
-/// The bytes of a container whose length is not allowed: cut short, or longer than the longest
-/// and otherwise good.
+/// The bytes of a container whose length is not allowed: cut short. Those that are too long are in `long`.
 pub fn of_wrong_length(rng: &mut Rng, container: &Container) -> Vec<u8> {
-    if rng.chance(80) {
-        let mut bytes = container.to_bytes();
-        bytes.truncate(rng.pick(&[0, 1, 31, 32, 100, 467, 468, 470, 471]));
-        return bytes;
-    }
-    let length = rng.pick(&[MAX_LENGTH + 1, MAX_LENGTH + 2, 70_000]);
-    Container {
-        length,
-        ..container.clone()
-    }
-    .to_bytes()
+    let mut bytes = container.to_bytes();
+    bytes.truncate(rng.pick(&[0, 1, 31, 32, 100, 467, 468, 470, 471]));
+    bytes
 }

@@ -30,10 +30,10 @@ fn create(flaws: &[u32], rng: &mut Rng, checker: &mut Checker) -> u32 {
     let length = match rng.below(100) {
         0..60 => rng.pick(&[472, 473, 474, 563, 564]),
         60..99 => rng.within(472..=1500),
-        _ => rng.pick(&[65_535, 65_536]),
+        _ => rng.pick(&[65_536, 65_537]),
     };
     let length = if has(1) {
-        rng.pick(&[0, 1, 32, 468, 471, 65_537])
+        rng.pick(&[0, 1, 32, 468, 471])
     } else {
         length
     };

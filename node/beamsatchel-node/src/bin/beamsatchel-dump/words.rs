@@ -165,7 +165,7 @@ fn data(data: &[u8], out: &mut impl Write) -> io::Result<()> {
         let width = ROW * 3 - 1;
         writeln!(
             out,
-            "  {:>7}  {:<width$}  |{text}|",
+            "  {:>8}  {:<width$}  |{text}|",
             row * ROW,
             pairs.join(" ")
         )?;

@@ -12,7 +12,7 @@ pub fn run(rng: &mut Rng, checker: &mut Checker) {
     extra_counts(rng, checker);
 }
 
-/// 472 and 65,536, and those beside them, for create and each kind.
+/// 472 and those beside it, and some about the longest request's, for create and each kind.
 fn buffer_lengths(rng: &mut Rng, checker: &mut Checker) {
     for length in [
         0, 1, 32, 84, 100, 468, 471, 472, 473, 563, 564, 565, 65_535, 65_536, 65_537, 70_000,
@@ -22,7 +22,7 @@ fn buffer_lengths(rng: &mut Rng, checker: &mut Checker) {
         let mut bytes = fresh(length.max(472)).to_bytes();
         bytes.truncate(length);
         for _ in 0..40 {
-            let container = fresh(length.clamp(472, 65_536));
+            let container = fresh(length.max(472));
             let request = requests::any(rng, &container);
             run_case(checker, &bytes, requests::encode(&request), 600);
         }
@@ -35,7 +35,18 @@ fn buffer_lengths(rng: &mut Rng, checker: &mut Checker) {
 /// agrees as a 64-bit sum.
 fn size_fields(checker: &mut Checker) {
     let near = |edge: u64| (0..=4).map(move |step| edge.wrapping_add(step).wrapping_sub(2));
-    let powers = [2, 128, 528, 65_064, 65_536, 1 << 31, 1 << 32, 1 << 63];
+    let powers = [
+        2,
+        128,
+        528,
+        65_064,
+        65_536,
+        16_776_744,
+        16_777_216,
+        1 << 31,
+        1 << 32,
+        1 << 63,
+    ];
     let wraps = [0, 468, 472, 564].map(u64::wrapping_neg);
     for length in [472, 600, 1000, 65_536] {
         for size in powers.into_iter().chain(wraps).flat_map(near) {

@@ -58,6 +58,7 @@ fn offsets_and_lengths(rng: &mut Rng, checker: &mut Checker) {
             .chain(-size - 1..=-size)
             .chain(327..=329) // the end of the room
             .chain(65_063..=65_065)
+            .chain(16_776_743..=16_776_745) // the end of the longest data
             .chain([i32::MIN, i32::MIN + 1, i32::MAX - 1, i32::MAX]);
         let size = size as u32;
         for offset in offsets {
