@@ -1,4 +1,4 @@
--- P1 to P10, P12 to P20 and P30 to P34: the tables hold, and the whole request of 62 bytes. Assumes nothing.
+-- P1 to P10, P12 to P20 and P30 to P38: the tables hold, and the whole request of 62 bytes. Assumes nothing.
 use mathlib.Core.Path.{_≡_, refl, ap₂, _∙_}
 use mathlib.Core.Bool.{true}
 use mathlib.Core.List.{List, [], _∷_, map}
@@ -38,6 +38,7 @@ use Rattle.rules.specs.Edges.{fills, filled}
 use Rattle.rules.specs.Changes.{covers, cutChange, writeChanges, changesOf}
 use Rattle.rules.specs.Stretch.{inFields, inWritten, stretchFrom, stretchTo}
 use Rattle.rules.proofs.WriteLaws.{no-gap}
+use Rattle.rules.proofs.LongTable.{long-table}
 
 -- a table is claimed piece by piece
 pieces : (n : ℕ) (xs : List Case) (ys : List Outcome) →
@@ -143,4 +144,5 @@ edges = record {
   slack = computed .slack;
   places = computed .places;
   stretches-in-slack = computed .stretches-in-slack;
+  long-table = long-table;
 }

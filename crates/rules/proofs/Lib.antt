@@ -8,6 +8,7 @@ pub mod OutcomeLaws
 pub mod RefusalLaws
 pub mod NumberLaws
 pub mod ReplyLaws
+pub mod LongTable
 pub mod EdgeTable
 pub mod Demand1
 pub mod Demand2

@@ -1,15 +1,16 @@
--- Numbers at the edges (docs/RULES.md, P1 to P10, P12 to P20, P30 to P34), as tables: what create and then a few
--- requests give, what reads return, which bytes a test-and-write changes, and what slack allows.
+-- Numbers at the edges (docs/RULES.md, P1 to P10, P12 to P20, P30 to P38), as tables: what create and then a few
+-- requests give, what reads return, which bytes a test-and-write changes, what slack allows, and what the longest buffer
+-- holds.
 use Prim.Native.Nat.{ℕ, zero, suc}
 use mathlib.Core.Path.{_≡_}
-use mathlib.Core.Bool.{Bool, cond}
+use mathlib.Core.Bool.{Bool, false, cond}
 use mathlib.Core.List.{List, [], _∷_, _++_, map}
 use lib.ListN.{length, take, replicate}
 use lib.Dec.{eqb}
 use Rattle.octets.specs.Numbers.{digits}
-use Rattle.octets.specs.Strings.{join}
+use Rattle.octets.specs.Strings.{same, join}
 use Rattle.octets.specs.Moves.{put}
-use Rattle.format.specs.Layout.{sizeWidth, sizeAt, offsetAt, fixedPlaces, dataOf, slackOf, usedEnd}
+use Rattle.format.specs.Layout.{magic, nodeAt, sizeWidth, sizeAt, offsetAt, fixedPlaces, dataOf, slackOf, usedEnd}
 use Rattle.format.specs.Parts.{encode, fresh, noLease}
 use Rattle.rules.specs.Outcomes.{outcome, answerOf, noNode, answered, containerAfter, replyAfter, createOutcome}
 use Rattle.rules.specs.Outcomes.{createdContainer}
@@ -505,6 +506,45 @@ filled =
     ∷ touches 0 473 571 [] []
     ∷ []
 
+-- A buffer of n bytes that does not begin with the magic.
+pub record Blank (n : ℕ) (c : List ℕ) : Type 0 where
+  pub size : length c ≡ n
+  pub no-magic : same (take nodeAt c) magic ≡ false
+
+-- Data of which nobody wrote the first n bytes.
+unfoldable pub behindZeros : ℕ → List ℕ → List ℕ
+behindZeros n bs = replicate n 0 ++ bs
+
+-- Five leases and then a request.
+abbrev pub fiveAnd : List ℕ → List (List ℕ)
+fiveAnd q = addLease 1 ∷ addLease 2 ∷ addLease 3 ∷ addLease 4 ∷ addLease 5 ∷ q ∷ []
+
+-- The table of long buffers: P35 (create in 65,537 bytes; in 16,777,216), P36 (in the latter a byte at the last place
+-- that there is; at the next), P37 (the same two beside five leases, one of them extra), P38 (a request of 65,537
+-- bytes). `middle` and `long` stand for any buffers of those two lengths, and q for any bytes.
+abbrev pub longCases : List ℕ → List ℕ → List ℕ → List Case
+longCases middle long q =
+    record { buffer = middle; requests = [] }
+    ∷ record { buffer = long; requests = [] }
+    ∷ record { buffer = long; requests = write (bytesAt 16776743 (65 ∷ []) ∷ []) ∷ [] }
+    ∷ record { buffer = long; requests = write (bytesAt 16776744 (65 ∷ []) ∷ []) ∷ [] }
+    ∷ record { buffer = long; requests = fiveAnd (write (bytesAt 16776651 (65 ∷ []) ∷ [])) }
+    ∷ record { buffer = long; requests = fiveAnd (write (bytesAt 16776652 (65 ∷ []) ∷ [])) }
+    ∷ record { buffer = long; requests = q ∷ [] }
+    ∷ []
+
+-- What each case gives, in the same order.
+abbrev pub longResults : List Outcome
+longResults =
+    gives 0 [] [] (472 ∷ [])
+    ∷ gives 0 [] [] (472 ∷ [])
+    ∷ gives 0 (0 ∷ []) (behindZeros 16776743 (65 ∷ [])) (472 ∷ 16777216 ∷ [])
+    ∷ gives 0 (11 ∷ []) [] (472 ∷ 472 ∷ [])
+    ∷ gives 0 (replicate 6 0) (behindZeros 16776651 (65 ∷ [])) (replicate 5 472 ++ (564 ∷ 16777216 ∷ []))
+    ∷ gives 0 (replicate 5 0 ++ (11 ∷ [])) [] (replicate 5 472 ++ (564 ∷ 564 ∷ []))
+    ∷ gives 0 (3 ∷ []) [] (472 ∷ 472 ∷ [])
+    ∷ []
+
 -- The claim of the tables.
 pub record EdgesHold : Type 0 where
   -- every case gives its result
@@ -529,3 +569,6 @@ pub record EdgesHold : Type 0 where
   pub places : map judged shifted ≡ judgements
   -- every row of the table of what is touched beside slack touches what stands beside it
   pub stretches-in-slack : map (touch (leasedWith 573 2)) fills ≡ filled
+  -- every case of a long buffer gives its result
+  pub long-table : (middle long q : List ℕ) → Blank 65537 middle → Blank 16777216 long → length q ≡ 65537 →
+      map result (longCases middle long q) ≡ longResults

@@ -109,6 +109,77 @@ fn p1_buffer_lengths() {
     }
 }
 
+/// The most bytes of a container's buffer.
+const LONGEST: usize = 16_777_216;
+
+#[test]
+fn p35_containers_may_be_longer_than_requests() {
+    for length in [65_537, LONGEST] {
+        let mut container = fresh(length);
+        assert_eq!((field(&container, 84), used(&container)), (0, 472));
+        assert_eq!(apply(&mut container, &[5, 0, 0, 0], &mut []), (0, 0));
+    }
+}
+
+/// The data of a container of which nobody wrote all but the last byte.
+fn is_one_behind_zeros(container: &[u8], size: usize) -> bool {
+    let data = &container[468..468 + field(container, 84)];
+    let (last, zeros) = data.split_last().expect("some data");
+    data.len() == size && *last == 65 && zeros.iter().all(|byte| *byte == 0)
+}
+
+#[test]
+fn p36_a_byte_at_the_last_place_of_the_longest() {
+    let mut container = fresh(LONGEST);
+    assert_eq!(
+        number(&mut container, &write(&[(16_776_744, b"A")], None)),
+        11
+    );
+    assert_eq!((field(&container, 84), used(&container)), (0, 472));
+    assert_eq!(
+        number(&mut container, &write(&[(16_776_743, b"A")], None)),
+        0
+    );
+    assert!(is_one_behind_zeros(&container, 16_776_744));
+    assert_eq!(used(&container), LONGEST);
+}
+
+#[test]
+fn p37_an_extra_lease_goes_to_the_end_of_the_longest() {
+    let mut container = fresh(LONGEST);
+    let mut lengths = vec![used(&container)];
+    for owner in 1..=5 {
+        assert_eq!(number(&mut container, &add(owner)), 0);
+        lengths.push(used(&container));
+    }
+    assert_eq!(lengths, [472, 472, 472, 472, 472, 564]);
+    assert_eq!(
+        number(&mut container, &write(&[(16_776_652, b"A")], None)),
+        11
+    );
+    assert_eq!((field(&container, 84), used(&container)), (0, 564));
+    assert_eq!(
+        number(&mut container, &write(&[(16_776_651, b"A")], None)),
+        0
+    );
+    assert!(is_one_behind_zeros(&container, 16_776_652));
+    assert_eq!(used(&container), LONGEST);
+    assert_eq!(container[LONGEST - 92..], add(5)[1..]);
+}
+
+/// Whatever its bytes are; those of the second are a test-and-write's, with every sum right.
+#[test]
+fn p38_requests_stay_short() {
+    let mut container = fresh(LONGEST);
+    let longest = write(&[(0, &[b'A'; 65_536 - 48])], None);
+    let longer = write(&[(0, &[b'A'; 65_537 - 48])], None);
+    assert_eq!((longest.len(), longer.len()), (65_536, 65_537));
+    assert_eq!(number(&mut container, &[0xFF; 65_537]), 3);
+    assert_eq!(number(&mut container, &longer), 3);
+    assert_eq!((field(&container, 84), used(&container)), (0, 472));
+    assert_eq!(number(&mut container, &longest), 0);
+}
+
 #[test]
 fn a_fresh_container() {
     let container = fresh(500);
