@@ -2,6 +2,7 @@
 
 use crate::case::Case;
 use crate::common::modelled;
+use crate::long::Long;
 use crate::looks::Look;
 use crate::shapes::Shape;
 use crate::slacks::Slack;
@@ -53,6 +54,8 @@ impl Checker {
             .touches(Touch::of_case(&before, answer.number, case));
         self.tally
             .slacks(Slack::of_case(&before, answer.number, case));
+        self.tally
+            .longs(Long::of_case(&before, answer.number, case));
         answer
     }
 
@@ -309,8 +312,10 @@ fn compare_case(
         && model.1.container == other.1.container
         && model.1.reply == other.1.reply;
     if !same {
+        let (a, b) = (&model.1.container, &other.1.container);
+        let byte = a.iter().zip(b).position(|(a, b)| a != b);
         panic!(
-            "{who} differs\n{}\nmodel: {:?}\n{}\n{who}: {:?}\n{}",
+            "{who} differs, the container first at byte {byte:?}\n{}\nmodel: {:?}\n{}\n{who}: {:?}\n{}",
             show(before),
             model.0,
             show(model.1),
@@ -344,13 +349,13 @@ fn show_share(share: &model::NewShare, space: &[u8]) -> String {
     )
 }
 
-/// The length and the bytes, but for zeros at the end.
+/// The length and the bytes, but for zeros at the end; of a long container only the first.
 fn hex(bytes: &[u8]) -> String {
     let used = bytes
         .iter()
         .rposition(|byte| *byte != 0)
         .map_or(0, |last| last + 1);
-    let shown: String = bytes[..used]
+    let shown: String = bytes[..used.min(70_000)]
         .iter()
         .map(|byte| format!("{byte:02x}"))
         .collect();

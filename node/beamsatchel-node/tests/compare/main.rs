@@ -3,9 +3,9 @@
 //!
 //! `BEAMSATCHEL_SEED` sets another seed, `BEAMSATCHEL_CASES` a longer run. The run prints how
 //! often each outcome and each pair of outcomes was met, where tests and reads looked, what
-//! test-and-writes touched, where the count stood, and of which shapes shares to be written were;
-//! it fails where a possible one was not met, and at once where an impossible outcome is or a byte
-//! changed that a test-and-write leaves alone.
+//! test-and-writes touched, where the count stood, what was met in long containers, and of which
+//! shapes shares to be written were; it fails where a possible one was not met, and at once where
+//! an impossible outcome is or a byte changed that a test-and-write leaves alone.
 
 mod apart;
 mod case;
@@ -16,6 +16,7 @@ mod containers;
 mod creates;
 mod edges;
 mod histories;
+mod long;
 mod looks;
 mod new_share_pairs;
 mod new_shares;
@@ -58,6 +59,7 @@ fn main() {
         );
     };
     section("edges", &|rng, checker| edges::run(rng, checker));
+    section("long containers", &|rng, checker| long::run(rng, checker));
     section("pairs", &|rng, checker| {
         pairs::run(cases / 20_000, rng, checker)
     });

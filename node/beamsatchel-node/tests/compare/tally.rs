@@ -1,6 +1,7 @@
-//! How often each outcome, each pair of outcomes, each look at the data, each touch of it, each place of the count and
-//! each shape of a new share was met.
+//! How often each outcome, each pair of outcomes, each look at the data, each touch of it, each place of the count,
+//! each thing in a long container and each shape of a new share was met.
 
+use crate::long::Long;
 use crate::looks::Look;
 use crate::rng::Rng;
 use crate::shapes::Shape;
@@ -121,6 +122,7 @@ pub struct Tally {
     looks: BTreeMap<(Call, Look), u64>,
     touches: BTreeMap<Touch, u64>,
     slacks: BTreeMap<Slack, u64>,
+    longs: BTreeMap<Long, u64>,
     shapes: BTreeMap<Shape, u64>,
     /// The N of shares that were written.
     totals: BTreeSet<u8>,
@@ -157,6 +159,12 @@ impl Tally {
     pub fn slacks(&mut self, slacks: Vec<Slack>) {
         for slack in slacks {
             *self.slacks.entry(slack).or_default() += 1;
+        }
+    }
+
+    pub fn longs(&mut self, longs: Vec<Long>) {
+        for long in longs {
+            *self.longs.entry(long).or_default() += 1;
         }
     }
 
@@ -224,6 +232,13 @@ impl Tally {
             .map(|(slack, count)| format!("{slack:?}: {count}"))
             .collect();
         println!("  {}", met.join(", "));
+        println!("\nwhat long containers were like, and what was done to them:");
+        let met: Vec<String> = self
+            .longs
+            .iter()
+            .map(|(long, count)| format!("{long:?}: {count}"))
+            .collect();
+        println!("  {}", met.join(", "));
         println!(
             "\nshapes of new shares, written with {} different N:",
             self.totals.len()
@@ -236,7 +251,7 @@ impl Tally {
         println!("  {}\n", met.join(", "));
     }
 
-    /// Every possible outcome, pair, look, touch, place of the count and shape was met, and every N.
+    /// Every possible outcome, pair, look, touch, place of the count, long container and shape was met, and every N.
     pub fn demand_all(&self) {
         for call in Call::ALL {
             for number in call.outcomes() {
@@ -264,6 +279,9 @@ impl Tally {
         }
         for slack in Slack::ALL {
             assert!(self.slacks.contains_key(&slack), "{slack:?} was never met");
+        }
+        for long in Long::ALL {
+            assert!(self.longs.contains_key(&long), "{long:?} was never met");
         }
         for shape in Shape::ALL {
             assert!(self.shapes.contains_key(&shape), "{shape:?} was never met");

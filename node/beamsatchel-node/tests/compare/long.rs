@@ -1,0 +1,492 @@
+//! Containers that are longer than a request can be, up to the longest and one byte past it. Each case costs many passes
+//! over 16 MiB, so there are few, and each is aimed at an edge.
+
+use crate::case::Case;
+use crate::checker::Checker;
+use crate::containers;
+use crate::histories;
+use crate::requests;
+use crate::rng::Rng;
+use beamsatchel_model::{Container, Lease, Read, Request, Test, TestAndWrite, Write};
+
+/// The most bytes of a container's buffer.
+const LONGEST: usize = 16_777_216;
+/// The most bytes of a request.
+const LONGEST_REQUEST: usize = 65_536;
+
+pub fn run(rng: &mut Rng, checker: &mut Checker) {
+    let between = rng.within(LONGEST_REQUEST + 2..=LONGEST - 2);
+    creates(rng, checker, between);
+    for length in [LONGEST_REQUEST + 1, rng.within(1 << 17..=1 << 21), between] {
+        for layout in Layout::ALL {
+            let container = layout.container(rng, length);
+            on_container(rng, checker, &container);
+        }
+    }
+    for layout in Layout::ALL {
+        let mut container = layout.container(rng, LONGEST);
+        on_container(rng, checker, &container);
+        // With a byte less of buffer, and with a byte more.
+        if container.used() < LONGEST as u64 {
+            container.length = LONGEST - 1;
+            fitting(rng, checker, &container);
+        }
+        container.length = LONGEST + 1;
+        too_long(rng, checker, &container);
+    }
+    history(rng, checker);
+}
+
+/// What a long container, or a request on one, was like.
+#[derive(Clone, Copy, Debug, PartialEq, Eq, PartialOrd, Ord)]
+pub enum Long {
+    /// By the buffer's length.
+    Between,
+    OneLess,
+    Longest,
+    OneMore,
+    /// By what lies in the buffer, where it is well formed: more than a request's length of it.
+    Data,
+    DataBeforeExtras,
+    Slack,
+    SlackBeforeExtras,
+    Tail,
+    /// Refused with 2, for the last byte of the longest buffer alone.
+    LastByteNotZero,
+    /// The data grew by more than a request's length: count and extras moved.
+    FarGrowth,
+    FarGrowthOfExtras,
+    /// They ended with the longest buffer.
+    FarGrowthFits,
+    /// A byte was missing for that.
+    FarGrowthLacksAByte,
+    /// It grew so inside the slack.
+    FarGrowthInSlack,
+    /// The size on the way was more than the longest buffer, and the cut took that back.
+    FarOnTheWay,
+    /// A cut took more than a request's length.
+    FarCut,
+    FarCutBesideExtras,
+    /// Behind data or slack of such a length.
+    AddedExtra,
+    RenewedExtra,
+    CancelledExtra,
+    /// A test or a read had a piece of such a length.
+    TestPiece,
+    ReadPiece,
+}
+
+impl Long {
+    pub const ALL: [Long; 23] = [
+        Long::Between,
+        Long::OneLess,
+        Long::Longest,
+        Long::OneMore,
+        Long::Data,
+        Long::DataBeforeExtras,
+        Long::Slack,
+        Long::SlackBeforeExtras,
+        Long::Tail,
+        Long::LastByteNotZero,
+        Long::FarGrowth,
+        Long::FarGrowthOfExtras,
+        Long::FarGrowthFits,
+        Long::FarGrowthLacksAByte,
+        Long::FarGrowthInSlack,
+        Long::FarOnTheWay,
+        Long::FarCut,
+        Long::FarCutBesideExtras,
+        Long::AddedExtra,
+        Long::RenewedExtra,
+        Long::CancelledExtra,
+        Long::TestPiece,
+        Long::ReadPiece,
+    ];
+
+    /// What a case met that was answered with this number.
+    pub fn of_case(before: &Case, number: u32, after: &Case) -> Vec<Long> {
+        let mut met = match before.container.len() {
+            ..=LONGEST_REQUEST => return Vec::new(),
+            LONGEST => vec![Long::Longest],
+            length if length == LONGEST - 1 => vec![Long::OneLess],
+            length if length == LONGEST + 1 => vec![Long::OneMore],
+            ..LONGEST => vec![Long::Between],
+            _ => Vec::new(),
+        };
+        match Container::from_bytes(&before.container) {
+            Some(old) => {
+                met.extend(lying_in(&old));
+                met.extend(of_request(&old, before, number, after));
+            }
+            None => met.extend(of_last_byte(&before.container)),
+        }
+        met
+    }
+}
+
+fn is_long(count: usize) -> bool {
+    count > LONGEST_REQUEST
+}
+
+/// What lies in a long container.
+fn lying_in(container: &Container) -> Vec<Long> {
+    let extras = container.extras() > 0;
+    let mut met = Vec::new();
+    if is_long(container.data.len()) {
+        met.push(Long::Data);
+        met.extend(extras.then_some(Long::DataBeforeExtras));
+    }
+    if is_long(container.slack) {
+        met.push(Long::Slack);
+        met.extend(extras.then_some(Long::SlackBeforeExtras));
+    }
+    met.extend(is_long(container.length - container.used() as usize).then_some(Long::Tail));
+    met
+}
+
+/// What a request did to a long container.
+fn of_request(old: &Container, before: &Case, number: u32, after: &Case) -> Vec<Long> {
+    let Some(request) = Request::from_bytes(&before.request) else {
+        return Vec::new();
+    };
+    let new = Container::from_bytes(&after.container).expect("well formed");
+    let extras = old.extras() > 0;
+    let before_extras = is_long(old.data.len() + old.slack);
+    let mut met = Vec::new();
+    match (request, number) {
+        (Request::TestAndWrite(asked), 0) => {
+            let grown = new.data.len().saturating_sub(old.data.len());
+            let cut = old.data.len().saturating_sub(new.data.len());
+            let moved = new.count() > old.count();
+            if is_long(grown) && moved {
+                met.push(Long::FarGrowth);
+                met.extend(extras.then_some(Long::FarGrowthOfExtras));
+                met.extend((new.used() == LONGEST as u64).then_some(Long::FarGrowthFits));
+            }
+            met.extend((is_long(grown) && !moved).then_some(Long::FarGrowthInSlack));
+            if is_long(cut) {
+                met.push(Long::FarCut);
+                met.extend(extras.then_some(Long::FarCutBesideExtras));
+            }
+            let ends = asked
+                .writes
+                .iter()
+                .map(|write| write.offset as usize + write.data.len());
+            met.extend((ends.max() > Some(LONGEST)).then_some(Long::FarOnTheWay));
+            let mut tests = asked.tests.iter();
+            let long = tests.any(|test| has_long_piece(old, test.offset, test.length));
+            met.extend(long.then_some(Long::TestPiece));
+        }
+        (Request::TestAndWrite(asked), 11) => {
+            // Without its last byte the last write would fit.
+            let mut shorter = asked;
+            shorter.writes.last_mut().expect("it grew").data.pop();
+            let mut with_shorter = before.clone();
+            with_shorter.request = requests::encode(&Request::TestAndWrite(shorter));
+            let number = apply(&mut with_shorter);
+            met.extend((number == 0).then_some(Long::FarGrowthLacksAByte));
+        }
+        (Request::Add(_), 0) if before_extras && new.extras() > old.extras() => {
+            met.push(Long::AddedExtra)
+        }
+        (Request::Renew { .. }, 0) if before_extras && new.places[4..] != old.places[4..] => {
+            met.push(Long::RenewedExtra)
+        }
+        (Request::Cancel { .. }, 0) if before_extras && new.extras() < old.extras() => {
+            met.push(Long::CancelledExtra)
+        }
+        (Request::Read(reads), 0) => {
+            let mut reads = reads.iter();
+            let long = reads.any(|read| has_long_piece(old, read.offset, read.length));
+            met.extend(long.then_some(Long::ReadPiece));
+        }
+        _ => {}
+    }
+    met
+}
+
+fn apply(case: &mut Case) -> u32 {
+    beamsatchel_model::apply(&mut case.container, &case.request, &mut case.reply).number
+}
+
+fn has_long_piece(container: &Container, offset: i32, length: u32) -> bool {
+    let rest = container.data.len().saturating_sub(offset as usize);
+    is_long(rest.min(length as usize))
+}
+
+fn of_last_byte(container: &[u8]) -> Option<Long> {
+    let mut changed = container.to_vec();
+    let last = changed.last_mut().filter(|last| **last != 0)?;
+    *last = 0;
+    let good = container.len() == LONGEST && Container::from_bytes(&changed).is_some();
+    good.then_some(Long::LastByteNotZero)
+}
+
+/// What fills a long buffer.
+#[derive(Clone, Copy)]
+enum Layout {
+    /// Data, up to all 64 leases at the end.
+    Data,
+    /// Zeros behind a few extras.
+    Tail,
+    /// Slack before a few extras.
+    Slack,
+    /// A third each.
+    Each,
+}
+
+impl Layout {
+    const ALL: [Layout; 4] = [Layout::Data, Layout::Tail, Layout::Slack, Layout::Each];
+
+    fn container(self, rng: &mut Rng, length: usize) -> Container {
+        let third = length / 3 - 2000;
+        let (extras, data, slack) = match self {
+            Layout::Data => (60, length - 472 - 92 * 60, 0),
+            Layout::Tail => (2, 5, 0),
+            Layout::Slack => (3, 5, length - 472 - 92 * 3 - 200 - 5),
+            Layout::Each => (1, third, third),
+        };
+        let lease = |rng: &mut Rng, place: usize| Lease {
+            renewal: containers::own_token(place),
+            cancel: containers::own_token(100 + place),
+            ..containers::lease(rng)
+        };
+        Container {
+            length,
+            node: rng.array(),
+            enabler: [0xEE; 32],
+            data: rng.letters(data),
+            slack,
+            places: (0..4 + extras)
+                .map(|place| Some(lease(rng, place)))
+                .collect(),
+        }
+    }
+}
+
+/// Create at and one past the edge, in zeros and in any bytes, with a node id that is too short and over a container.
+fn creates(rng: &mut Rng, checker: &mut Checker, between: usize) {
+    for length in [between, LONGEST - 1, LONGEST, LONGEST + 1, LONGEST + 2] {
+        for mut buffer in [vec![0; length], rng.bytes(length)] {
+            buffer[0] &= 0x7F;
+            let too_long = length > LONGEST;
+            let number = checker.create(&mut buffer, &[7; 19], &[0xEE; 32]).number;
+            assert_eq!(number, if too_long { 1 } else { 3 });
+            let number = checker.create(&mut buffer, &[7; 20], &[0xEE; 32]).number;
+            assert_eq!(number, u32::from(too_long));
+            let number = checker.create(&mut buffer, &[7; 20], &[0xEE; 32]).number;
+            assert_eq!(number, if too_long { 1 } else { 12 });
+        }
+    }
+}
+
+/// All that is asked of a well-formed container, and the same container damaged.
+fn on_container(rng: &mut Rng, checker: &mut Checker, container: &Container) {
+    fitting(rng, checker, container);
+    cutting(rng, checker, container);
+    leasing(rng, checker, container);
+    looking(rng, checker, container);
+    for _ in 0..2 {
+        let request = requests::any(rng, container);
+        run_request(checker, container, &request);
+    }
+    let mut damaged = vec![containers::damaged(rng, container)];
+    if container.used() < container.length as u64 {
+        let mut bytes = container.to_bytes();
+        *bytes.last_mut().expect("long") = rng.not_zero();
+        damaged.push(bytes);
+    }
+    for bytes in damaged {
+        checker.share_in_container(&bytes);
+        let number = run_bytes(checker, bytes, vec![5, 0, 0, 0], 0);
+        assert_eq!(number, 2);
+    }
+    checker.share_in_container(&container.to_bytes());
+}
+
+/// Growth to the last byte that there is and one past it: by a write past a gap, by a longer one, by one far past the
+/// buffer with a cut.
+fn fitting(rng: &mut Rng, checker: &mut Checker, container: &Container) {
+    let (size, extras) = (container.data.len(), container.extras());
+    let most = container.length - 472 - 92 * extras;
+    for (last, number) in [(most, 0), (most + 1, 11)] {
+        let start = size.max(last.saturating_sub(60_000));
+        let mut asked = vec![TestAndWrite {
+            cut: Some(last as u32),
+            ..write(i32::MAX - 2, b"far")
+        }];
+        if size < last {
+            asked.push(write(last as i32 - 1, b"Z"));
+            asked.push(write(start as i32, &rng.letters(last - start)));
+        }
+        for request in asked {
+            assert_eq!(
+                run_request(checker, container, &Request::TestAndWrite(request)),
+                number
+            );
+        }
+    }
+    // Inside the slack, with a gap of all of it but a byte.
+    if container.slack > 0 {
+        let last = size + container.slack - 1;
+        let request = Request::TestAndWrite(write(last as i32, b"Y"));
+        assert_eq!(run_request(checker, container, &request), 0);
+    }
+}
+
+/// Cuts to nothing, to half, and by a byte, alone and with a write across the cut.
+fn cutting(rng: &mut Rng, checker: &mut Checker, container: &Container) {
+    let size = container.data.len();
+    for (new_length, across) in [(0, false), (size / 2, true), (size - 1, false)] {
+        let bytes = rng.letters(if across { 60_000.min(size) } else { 0 });
+        let start = new_length.saturating_sub(bytes.len() / 2);
+        let request = TestAndWrite {
+            cut: Some(new_length as u32),
+            ..write(start as i32, &bytes)
+        };
+        assert_eq!(
+            run_request(checker, container, &Request::TestAndWrite(request)),
+            0
+        );
+    }
+}
+
+/// The last lease renewed and cancelled, and one more added.
+fn leasing(rng: &mut Rng, checker: &mut Checker, container: &Container) {
+    let last = container.places.len() - 1;
+    let renew = Request::Renew {
+        token: containers::own_token(last),
+        expiry: u32::MAX,
+    };
+    let cancel = Request::Cancel {
+        token: containers::own_token(100 + last),
+    };
+    let add = Request::Add(Lease {
+        renewal: containers::own_token(90),
+        ..containers::lease(rng)
+    });
+    let room = container.length - container.used() as usize;
+    let no_place = match container.extras() {
+        60 => 10,
+        _ if room < 92 => 11,
+        _ => 0,
+    };
+    for (request, number) in [(renew, 0), (cancel, 0), (add, no_place)] {
+        assert_eq!(run_request(checker, container, &request), number);
+    }
+}
+
+/// Pieces that begin at either end of the data, and of all of it; a test of all against its first bytes.
+fn looking(rng: &mut Rng, checker: &mut Checker, container: &Container) {
+    let size = container.data.len();
+    let piece = |offset: usize, length: u32| Read {
+        offset: offset as i32,
+        length,
+    };
+    let near = vec![
+        piece(0, 5),
+        piece(size - 3, 10),
+        piece(size, 1),
+        piece(size / 2, 70_000),
+    ];
+    for reads in [near, vec![piece(rng.below(5), u32::MAX)]] {
+        assert_eq!(run_request(checker, container, &Request::Read(reads)), 0);
+    }
+    // The specimen is a prefix, or all of it.
+    let specimen = container.data[..size.min(60_000)].to_vec();
+    let opcode = if specimen.len() < size { 6 } else { 3 };
+    let request = TestAndWrite {
+        tests: vec![Test {
+            offset: 0,
+            length: u32::MAX,
+            opcode,
+            specimen,
+        }],
+        ..write(size as i32 - 1, b"X")
+    };
+    assert_eq!(
+        run_request(checker, container, &Request::TestAndWrite(request)),
+        0
+    );
+}
+
+/// Requests one after the other on the longest container, each on what the one before left: samples far apart, cuts, and
+/// whatever else.
+fn history(rng: &mut Rng, checker: &mut Checker) {
+    let mut container = histories::create(LONGEST, rng, checker);
+    for turn in 0..24 {
+        let parts = Container::from_bytes(&container).expect("well formed");
+        let request = match turn % 4 {
+            0 => {
+                let count = rng.within(1..=200);
+                let offset = rng.below(LONGEST - 472 - 92 * 60 - count);
+                Request::TestAndWrite(write(offset as i32, &rng.letters(count)))
+            }
+            2 => Request::TestAndWrite(TestAndWrite {
+                cut: Some(rng.below(parts.data.len() + 1) as u32),
+                ..write(0, b"")
+            }),
+            _ => requests::any(rng, &parts),
+        };
+        let mut case = Case {
+            container,
+            reply: vec![0xA5; requests::reply_length(&request, &parts)],
+            request: requests::encode(&request),
+        };
+        checker.apply(&mut case);
+        container = case.container;
+    }
+}
+
+/// Every kind gets 1 from a container that is otherwise good, and so does what would be refused for something else.
+fn too_long(rng: &mut Rng, checker: &mut Checker, container: &Container) {
+    let good = container.to_bytes();
+    let mut damaged = good.clone();
+    damaged[rng.below(32)] ^= 1;
+    let requests = [
+        requests::encode(&Request::TestAndWrite(write(0, b"A"))),
+        requests::encode(&requests::any_lease_request(rng, container)),
+        vec![5, 0, 0, 0],
+        vec![6],
+        vec![1; LONGEST_REQUEST + 1],
+    ];
+    for bytes in [good, damaged] {
+        for request in &requests {
+            assert_eq!(run_bytes(checker, bytes.clone(), request.clone(), 9), 1);
+        }
+        assert_eq!(checker.share_in_container(&bytes), 1);
+    }
+}
+
+/// A test-and-write with one write.
+fn write(offset: i32, data: &[u8]) -> TestAndWrite {
+    TestAndWrite {
+        enabler: [0xEE; 32],
+        tests: Vec::new(),
+        writes: vec![Write {
+            offset,
+            data: data.to_vec(),
+        }],
+        cut: None,
+    }
+}
+
+/// Compares a request with exactly the reply space that it needs; gives the outcome.
+fn run_request(checker: &mut Checker, container: &Container, request: &Request) -> u32 {
+    let space = requests::reply_length(request, container);
+    run_bytes(
+        checker,
+        container.to_bytes(),
+        requests::encode(request),
+        space,
+    )
+}
+
+fn run_bytes(checker: &mut Checker, container: Vec<u8>, request: Vec<u8>, space: usize) -> u32 {
+    let mut case = Case {
+        container,
+        request,
+        reply: vec![0xA5; space],
+    };
+    checker.apply(&mut case).number
+}
