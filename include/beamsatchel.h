@@ -39,6 +39,13 @@ enum beamsatchel_outcome {
     BEAMSATCHEL_WRITE_SPACE = 7
 };
 
+/* The least and the most bytes of a container's buffer, and the most bytes of a request. */
+enum {
+    BEAMSATCHEL_CONTAINER_MIN = 472,
+    BEAMSATCHEL_CONTAINER_MAX = 16777216,
+    BEAMSATCHEL_REQUEST_MAX = 65536
+};
+
 /* Bytes of a share before its first part. */
 enum { BEAMSATCHEL_SHARE_HEADER = 107 };
 
