@@ -9,8 +9,6 @@ use std::fmt;
 const MAX_REQUEST: usize = 65_536;
 /// The most tests, writes or reads of a request.
 const MAX_ENTRIES: usize = 16;
-/// The most bytes of data that a container can have, and so a piece.
-const MAX_DATA: usize = MAX_LENGTH - MIN_LENGTH;
 /// Bytes of a test-and-write before its first entry.
 const HEADER: usize = 40;
 /// Bytes of a test's entry.
@@ -18,13 +16,15 @@ const TEST: usize = 12;
 /// Bytes of a write's entry and of a read's.
 const ENTRY: usize = 8;
 
-/// The most bytes of a reply to a table of entries, each of which has its length behind a four-byte offset.
-fn reply_bound(table: &[u8], entry: usize) -> usize {
+/// The most bytes of a reply to a table of entries, each of which has its length behind a four-byte offset, from a
+/// container in a buffer of so many bytes.
+fn reply_bound(table: &[u8], entry: usize, buffer_len: usize) -> usize {
+    let most = buffer_len.min(MAX_LENGTH).saturating_sub(MIN_LENGTH);
     let lengths = table.chunks_exact(entry).map(|entry| {
         let length = entry[4..8].try_into().expect("four bytes");
         u32::from_be_bytes(length) as usize
     });
-    lengths.map(|length| 4 + MAX_DATA.min(length)).sum()
+    lengths.map(|length| 4 + most.min(length)).sum()
 }
 
 /// Why a builder took no more.
@@ -136,7 +136,8 @@ impl TestAndWrite {
         Ok(self)
     }
 
-    /// Adds a write. Writes run in order; one past the end of data leaves zeros between.
+    /// Adds a write. Writes run in order; one past the end of data leaves zeros between. A request has room for
+    /// [`write_room`](TestAndWrite::write_room) bytes more.
     pub fn write(mut self, offset: i32, data: &[u8]) -> Result<TestAndWrite, BuildError> {
         self.admit(self.write_count(), ENTRY, data)?;
         let data_length = u32::try_from(data.len()).expect("shorter than a request");
@@ -166,6 +167,35 @@ impl TestAndWrite {
         self
     }
 
+    /// How many bytes one more write can have, since a request has at most 65,536 and a container up to 16 MiB: data
+    /// that is longer takes several requests.
+    ///
+    /// ```
+    /// use beamsatchel_node::{Container, NodeId, TestAndWrite, WriteEnabler};
+    ///
+    /// # fn main() -> Result<(), beamsatchel_node::Error> {
+    /// let enabler = WriteEnabler::new([1; 32]);
+    /// let mut slot = Container::create(vec![0; 1_000_472], NodeId([7; 20]), enabler)?;
+    /// let samples = vec![0xA7; 1_000_000];
+    /// let mut written = 0;
+    /// while written < samples.len() {
+    ///     let request = TestAndWrite::new(enabler);
+    ///     let end = samples.len().min(written + request.write_room());
+    ///     let request = request.write(written as i32, &samples[written..end])?;
+    ///     assert!(slot.test_and_write(&request, &mut [])?.is_done());
+    ///     written = end;
+    /// }
+    /// assert!(slot.view()?.data() == samples);
+    /// # Ok(())
+    /// # }
+    /// ```
+    pub fn write_room(&self) -> usize {
+        match self.write_count() {
+            MAX_ENTRIES => 0,
+            _ => MAX_REQUEST.saturating_sub(self.len() + ENTRY),
+        }
+    }
+
     /// How many tests there are, and so pieces in the reply.
     pub fn test_count(&self) -> usize {
         self.tests.len() / TEST
@@ -176,9 +206,15 @@ impl TestAndWrite {
         self.writes.len() / ENTRY
     }
 
-    /// Reply space of this length is always enough.
+    /// Reply space of this length is always enough, whatever the container. A test of more than there can be counts as
+    /// 16 MiB here: [`reply_bound_in`](TestAndWrite::reply_bound_in) asks for less.
     pub fn reply_bound(&self) -> usize {
-        reply_bound(&self.tests, TEST)
+        self.reply_bound_in(MAX_LENGTH)
+    }
+
+    /// Reply space of this length is always enough for a container in a buffer of `buffer_len` bytes.
+    pub fn reply_bound_in(&self, buffer_len: usize) -> usize {
+        reply_bound(&self.tests, TEST, buffer_len)
     }
 
     /// The request's bytes.
@@ -197,13 +233,17 @@ impl TestAndWrite {
         .concat()
     }
 
+    /// How many bytes the request has.
+    fn len(&self) -> usize {
+        let tables = self.tests.len() + self.writes.len();
+        HEADER + tables + self.specimens.len() + self.data.len()
+    }
+
     /// Whether one more entry with this body keeps to the format.
     fn admit(&self, entries: usize, entry: usize, body: &[u8]) -> Result<(), BuildError> {
-        let tables = HEADER + self.tests.len() + self.writes.len() + entry;
-        let bodies = self.specimens.len() + self.data.len() + body.len();
         if entries == MAX_ENTRIES {
             Err(BuildError::TooManyEntries)
-        } else if tables + bodies > MAX_REQUEST {
+        } else if self.len() + entry + body.len() > MAX_REQUEST {
             Err(BuildError::TooLong)
         } else {
             Ok(())
@@ -329,9 +369,25 @@ impl ReadData {
         self.reads.len() / ENTRY
     }
 
-    /// Reply space of this length is always enough.
+    /// Reply space of this length is always enough, whatever the container. A read of more than there can be counts as
+    /// 16 MiB here: [`reply_bound_in`](ReadData::reply_bound_in) asks for less.
     pub fn reply_bound(&self) -> usize {
-        reply_bound(&self.reads, ENTRY)
+        self.reply_bound_in(MAX_LENGTH)
+    }
+
+    /// Reply space of this length is always enough for a container in a buffer of `buffer_len` bytes.
+    ///
+    /// ```
+    /// use beamsatchel_node::ReadData;
+    ///
+    /// # fn main() -> Result<(), beamsatchel_node::BuildError> {
+    /// let all = ReadData::new().read(0, u32::MAX)?;
+    /// assert_eq!(all.reply_bound_in(1000), 4 + 1000 - 472);
+    /// # Ok(())
+    /// # }
+    /// ```
+    pub fn reply_bound_in(&self, buffer_len: usize) -> usize {
+        reply_bound(&self.reads, ENTRY, buffer_len)
     }
 
     /// The request's bytes.

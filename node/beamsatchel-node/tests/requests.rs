@@ -302,6 +302,61 @@ fn a_test_may_need_all_of_its_bound() {
     }
 }
 
+/// A write of just so many bytes is taken, and one of a byte more is not.
+#[test]
+fn the_room_for_one_more_write() {
+    let mut request = TestAndWrite::new(ENABLER);
+    assert_eq!(request.write_room(), 65_536 - 48);
+    for body in [0, 1, 1000, 30_000, 34_000] {
+        request = request.write(0, &vec![1; body]).unwrap();
+        request = request.test(0, 9, Opcode::Less, &[2; 40]).unwrap();
+        let room = request.write_room();
+        assert_eq!(room, 65_536 - request.to_bytes().len() - 8);
+        let longest = request.clone().write(7, &vec![3; room]).unwrap();
+        assert_eq!(
+            (longest.to_bytes().len(), longest.write_room()),
+            (65_536, 0)
+        );
+        let too_long = request.clone().write(7, &vec![3; room + 1]);
+        assert_eq!(too_long, Err(BuildError::TooLong));
+    }
+    // Where not even an entry is left, and where there are 16 writes.
+    let left = request.write_room();
+    let full = request.write(0, &vec![1; left - 3]).unwrap();
+    assert_eq!(full.write_room(), 0);
+    let all = (0..16).try_fold(TestAndWrite::new(ENABLER), |request, at| {
+        request.write(at, b"A")
+    });
+    assert_eq!(all.unwrap().write_room(), 0);
+}
+
+/// In a shorter container an open-ended test or read cannot need as much.
+#[test]
+fn a_bound_for_one_container() {
+    let slot = Container::open(with_data(70_000, &[1; 70_000 - 472])).unwrap();
+    let read = ReadData::new().read(0, u32::MAX).unwrap();
+    let read = read.read(1, 7).unwrap();
+    let test = TestAndWrite::new(ENABLER);
+    let test = test.test(0, u32::MAX, Opcode::Less, b"").unwrap();
+    let test = test.test(1, 7, Opcode::Less, b"").unwrap();
+    for bound in [read.reply_bound_in(70_000), test.reply_bound_in(70_000)] {
+        assert_eq!(bound, 4 + 70_000 - 472 + 4 + 7);
+        let reply = slot.read(&read, &mut vec![0; bound]).unwrap().len();
+        assert_eq!(reply, 2);
+        let refusal = slot.read(&read, &mut vec![0; bound - 1]).unwrap_err();
+        assert_eq!(refusal.reason, Reason::ReplySpace);
+    }
+    // Where no container can be, nothing is read.
+    for length in [0, 471, 472] {
+        assert_eq!(read.reply_bound_in(length), 8);
+        assert_eq!(test.reply_bound_in(length), 8);
+    }
+    for length in [16_777_216, 16_777_217, usize::MAX] {
+        assert_eq!(read.reply_bound_in(length), read.reply_bound());
+        assert_eq!(test.reply_bound_in(length), test.reply_bound());
+    }
+}
+
 /// Each statement drops what must not be dropped, which the compiler has to say.
 #[test]
 fn dropping_is_warned_of() {
