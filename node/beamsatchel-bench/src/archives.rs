@@ -7,7 +7,8 @@
 
 #![allow(unsafe_code)]
 
-use crate::contest::{contest, Side};
+use crate::contest::{contest, contest_each, Samples, Side};
+use crate::lengths;
 use crate::work::{self, Player, Slot, Source, NEW_SHARES};
 use beamsatchel_node::ffi::{RawAnswer, RawShare, RawWrittenShare, ShareArguments};
 use std::cell::RefCell;
@@ -242,6 +243,7 @@ pub fn against_each_other(archives: &[PathBuf]) -> Result<(), String> {
         };
         row_from(&workload.name, &libraries, begin, play);
     }
+    long_rows(&libraries);
     let share = work::share();
     row("check a bare share of 2,043 bytes", &libraries, |library| {
         check(library.check_share, &share);
@@ -284,9 +286,41 @@ fn row_from(name: &str, libraries: &[Library], begin: impl Fn(&Library), call: i
         .map(|library| Box::new(move || call(library)) as Side)
         .collect();
     let times = contest(&mut sides, |side| begin(&libraries[side]));
+    print_row(name, &times);
+}
+
+/// Long containers, each call on one as it was made; where every archive takes them.
+fn long_rows(libraries: &[Library]) {
+    for row in lengths::rows() {
+        let made = row.container();
+        let (buffer, reply) = (
+            RefCell::new(made.clone()),
+            RefCell::new(vec![0; made.len()]),
+        );
+        let call = |library: &Library| {
+            let (buffer, reply) = (&mut buffer.borrow_mut(), &mut reply.borrow_mut());
+            library.apply(buffer, black_box(&row.request), reply)
+        };
+        let ready = || buffer.borrow_mut().copy_from_slice(&made);
+        for library in libraries {
+            ready();
+            if call(library) != 0 {
+                println!("no longer containers, since not every archive takes them");
+                return;
+            }
+        }
+        let mut sides: Vec<Side> = libraries
+            .iter()
+            .map(|library| Box::new(move || assert_eq!(call(library), 0)) as Side)
+            .collect();
+        print_row(&row.name, &contest_each(&mut sides, |_| ready()));
+    }
+}
+
+fn print_row(name: &str, times: &[Samples]) {
     let ratios: Vec<f64> = times.iter().map(|side| side.over(&times[0])).collect();
     let first = mean(&ratios[..PLACES]);
-    print!("{name:<40}");
+    print!("{name:<50}");
     for (places, ratios) in times.chunks(PLACES).zip(ratios.chunks(PLACES)) {
         let medians: Vec<f64> = places.iter().map(|side| side.median()).collect();
         print!(" {:>9.1} {:>6.3}", mean(&medians), mean(ratios) / first);

@@ -6,6 +6,8 @@ const SAMPLES: usize = 401;
 /// Long beside the clock's own cost.
 const SAMPLE: Duration = Duration::from_micros(150);
 const WARM_UP: u32 = 200;
+/// Samples of one call each, which are long.
+const LONG_SAMPLES: usize = 101;
 
 /// One of the things that are timed against each other.
 pub type Side<'a> = Box<dyn FnMut() + 'a>;
@@ -35,9 +37,24 @@ pub fn contest(sides: &mut [Side], mut ready: impl FnMut(usize)) -> Vec<Samples>
     });
     let slowest = warm.fold(1.0, f64::max);
     let calls = (SAMPLE.as_nanos() as f64 / slowest).ceil() as u32;
+    sample(sides, SAMPLES, calls, ready)
+}
+
+/// Times sides against each other whose every call needs something done before, and is long beside the clock's own cost.
+pub fn contest_each(sides: &mut [Side], ready: impl FnMut(usize)) -> Vec<Samples> {
+    sample(sides, LONG_SAMPLES, 1, ready)
+}
+
+/// Takes so many samples of so many calls from each side.
+fn sample(
+    sides: &mut [Side],
+    samples: usize,
+    calls: u32,
+    mut ready: impl FnMut(usize),
+) -> Vec<Samples> {
     let count = sides.len();
     let mut times = vec![Vec::new(); count];
-    for sample in 0..SAMPLES {
+    for sample in 0..samples {
         // Forward and backward by turns, so that no side always finds the same one's work in the
         // caches.
         for turn in 0..count {

@@ -1,9 +1,11 @@
 //! The library against plain Rust written for speed (`beamsatchel_model::fast`), which makes every check and
-//! gives the same answers; or, where archives of the library are named, these against each other.
+//! gives the same answers, and in long containers against plain passes over the same memory too; or, where archives of
+//! the library are named, these against each other.
 //! Run by hand: `cargo run --release --bin beamsatchel-bench [-- BEFORE.a AFTER.a...]`.
 
 mod archives;
 mod contest;
+mod lengths;
 mod work;
 
 use beamsatchel_model::fast;
@@ -18,6 +20,7 @@ fn main() {
     let done = match &named[..] {
         [] => {
             against_rust();
+            lengths::against_rust_and_memory();
             Ok(())
         }
         [_] => Err("one archive has nothing beside it".to_string()),

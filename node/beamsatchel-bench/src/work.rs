@@ -8,10 +8,13 @@ use beamsatchel_node::{
 };
 use std::hint::black_box;
 use std::num::NonZeroU32;
+use std::ops::Range;
 
 const NODE: NodeId = NodeId([7; 20]);
 const ENABLER: WriteEnabler = WriteEnabler::new([0xEE; 32]);
 const LEASES: u8 = 6;
+/// Those of the leases that stand behind the data.
+const EXTRAS: usize = LEASES as usize - 4;
 /// Different requests of a workload, which come in turn.
 const REQUESTS: usize = 256;
 /// Enough for every reply.
@@ -37,16 +40,52 @@ impl Slot {
         container
     }
 
-    fn container(&self) -> Vec<u8> {
+    /// A slot in a buffer of `length` bytes with as much data as there is room for.
+    pub fn full(length: usize) -> Slot {
+        Slot::new(length, length - 472 - EXTRAS * 92)
+    }
+
+    pub fn container(&self) -> Vec<u8> {
         let mut bytes = vec![0; self.length];
         let mut slot = Container::create(&mut bytes[..], NODE, ENABLER).expect("a good length");
-        let request = TestAndWrite::new(ENABLER).write(0, &vec![b'A'; self.size]);
-        let done = slot.test_and_write(&request.expect("fits"), &mut []);
-        assert!(done.expect("room").is_done());
+        // As many requests as it takes.
+        for start in (0..self.size).step_by(60_000) {
+            let body = vec![b'A'; (self.size - start).min(60_000)];
+            let request = TestAndWrite::new(ENABLER).write(start as i32, &body);
+            let done = slot.test_and_write(&request.expect("fits"), &mut []);
+            assert!(done.expect("room").is_done());
+        }
         for number in 0..LEASES {
             slot.add_lease(lease(number)).expect("room");
         }
         bytes
+    }
+
+    /// Where its data lies.
+    pub fn data(&self) -> Range<usize> {
+        468..468 + self.size
+    }
+
+    /// Its used length.
+    pub fn used(&self) -> usize {
+        472 + self.size + EXTRAS * 92
+    }
+
+    /// A byte at the last place that there is.
+    pub fn far_write(&self) -> Vec<u8> {
+        let last = Slot::full(self.length).size - 1;
+        checked().write(last as i32, b"F").expect("fits").to_bytes()
+    }
+
+    /// A cut to nothing.
+    pub fn cut_all(&self) -> Vec<u8> {
+        checked().cut(0).to_bytes()
+    }
+
+    /// One read of all data.
+    pub fn read_all(&self) -> Vec<u8> {
+        let read = ReadData::new().read(0, self.size as u32);
+        read.expect("fits").to_bytes()
     }
 
     /// Writes at random offsets inside the data, each with a test of the first 41 bytes, as a
@@ -69,7 +108,7 @@ impl Slot {
 
     /// As many appends of `count` bytes as there is room for.
     pub fn appends(&self, count: usize) -> Vec<Vec<u8>> {
-        let room = self.length - 472 - 2 * 92 - self.size;
+        let room = Slot::full(self.length).size - self.size;
         let body = vec![b'D'; count];
         let appends = (0..room / count).map(|number| {
             let offset = (self.size + number * count) as i32;
@@ -214,7 +253,7 @@ pub fn rows() -> Vec<Workload> {
     for kibibytes in [2, 8, 32, 64] {
         let length = kibibytes * 1024;
         // Half of the room is data.
-        let slot = || Slot::new(length, (length - 472 - 2 * 92) / 2);
+        let slot = || Slot::new(length, Slot::full(length).size / 2);
         let timed = slot();
         for (name, requests) in [
             ("write 512 bytes", timed.writes(512)),
