@@ -12,7 +12,7 @@ use Rattle.format.specs.Claims.{Valid}
 use Rattle.format.proofs.RoundTrip.{parts-encode}
 use Rattle.rules.specs.Requests.{requestOf, kindOf, testWriteOf}
 use Rattle.rules.specs.Outcomes.{withBytes, withLeases, after, afterOf, rows, requestRows, replies, counted}
-use Rattle.rules.specs.Outcomes.{answerTo, replyTo, replyBytes, answered, containerAfter, replyAfter, admitRows}
+use Rattle.rules.specs.Outcomes.{answerTo, replyTo, replyBytes, answered, replyAfter, admitRows}
 use Rattle.rules.specs.Outcomes.{findRows}
 use Rattle.octets.specs.Rows.{firstRow}
 use Rattle.rules.proofs.RequestLaws.{Kinds, broken, tests, adds, renews, cancels, reads, kinds}

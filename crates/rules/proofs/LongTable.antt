@@ -6,8 +6,7 @@ use mathlib.Core.List.{List, [], _∷_, _++_, map, append-nil}
 use mathlib.Core.Option.{none, some}
 use Prim.Native.Nat.{ℕ, zero, suc, _+_, _-_, _≤_}
 use native.Mathlib.Omega.{arith}
-use lib.Dec.{eqb}
-use lib.ListN.{length, take, drop, replicate, length-append, length-replicate}
+use lib.ListN.{length, drop, replicate, length-append, length-replicate}
 use lib.Seq.{take-all}
 use lib.IntN.{pos}
 use Rattle.octets.specs.Numbers.{numberAfter, number, numberAt, digits}
@@ -25,11 +24,11 @@ use Rattle.rules.specs.Requests.{testEntryOk, allFrom, sumFrom, testsFro
 use Rattle.rules.specs.Requests.{cutFlag, newLength, writesAt, specimensAt, newDataAt, testWriteEnd, cutOk}
 use Rattle.rules.specs.Requests.{testWriteOk, cutOf, testWriteOf, addOk, kindOf, byKind, requestOf}
 use Rattle.rules.specs.Testing.{resolve, resolves, position, replyOf}
-use Rattle.rules.specs.Writing.{padTo, writeAt, placed, writesResolve, writeAll, cutTo, rewritten, grow}
+use Rattle.rules.specs.Writing.{padTo, writeAt, placed, writesResolve, writeAll, cutTo, rewritten}
 use Rattle.rules.specs.Leasing.{renewedBy, vacant, firstOf, added, knows, present, placedIn}
 use Rattle.rules.specs.Outcomes.{withBytes, withLeases, after, afterOf, replyTo, rows, admitRows, findRows}
 use Rattle.rules.specs.Outcomes.{roomRows, requestRows, createOutcome}
-use Rattle.rules.specs.Edges.{enabler, node, space, bytesAt, write, addLease, fiveAnd, Case, Outcome, gives}
+use Rattle.rules.specs.Edges.{enabler, node, space, bytesAt, write, fiveAnd, Outcome, gives}
 use Rattle.rules.specs.Edges.{numbers, finally, usedLengths, result, Blank, behindZeros, longCases, longResults}
 use Rattle.rules.proofs.OutcomeLaws.{outcome-encode, leftParts, left-encode, left-valid}
 use Rattle.rules.proofs.Demand1.{created, created-valid}
