@@ -38,7 +38,7 @@ use Rattle.rules.specs.Edges.{fills, filled}
 use Rattle.rules.specs.Changes.{covers, cutChange, writeChanges, changesOf}
 use Rattle.rules.specs.Stretch.{inFields, inWritten, stretchFrom, stretchTo}
 use Rattle.rules.proofs.WriteLaws.{no-gap}
-use Rattle.rules.proofs.LongTable.{long-table}
+use Rattle.rules.proofs.LongTable.{long-table, long-request}
 
 -- a table is claimed piece by piece
 pieces : (n : ℕ) (xs : List Case) (ys : List Outcome) →
@@ -145,4 +145,5 @@ edges = record {
   places = computed .places;
   stretches-in-slack = computed .stretches-in-slack;
   long-table = long-table;
+  long-request = long-request;
 }

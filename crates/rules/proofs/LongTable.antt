@@ -30,6 +30,7 @@ use Rattle.rules.specs.Outcomes.{withBytes, withLeases, after, afterOf, 
 use Rattle.rules.specs.Outcomes.{roomRows, requestRows, createOutcome}
 use Rattle.rules.specs.Edges.{enabler, node, space, bytesAt, write, fiveAnd, Outcome, gives}
 use Rattle.rules.specs.Edges.{numbers, finally, usedLengths, result, Blank, behindZeros, longCases, longResults}
+use Rattle.rules.specs.Edges.{writeOf}
 use Rattle.rules.proofs.OutcomeLaws.{outcome-encode, leftParts, left-encode, left-valid}
 use Rattle.rules.proofs.Demand1.{created, created-valid}
 
@@ -103,6 +104,19 @@ one-resolves : (at : ℕ) → writesResolve (one at) 0 ≡ true
 unfolding one writesResolve resolves resolve isSome
 one-resolves at = refl
 
+-- ---- bytes written at 0
+all : List ℕ → List Write
+all bs = record { offset = pos 0; bytes = bs } ∷ []
+
+all-made : (bs : List ℕ) → rewritten (all bs) none [] ≡ bs
+unfolding all rewritten cutTo placed position resolve orElse writeAll writeAt padTo
+all-made [] = refl
+all-made (b ∷ bs) = ap (λ (t : List ℕ). (b ∷ bs) ++ t) (drop-none (0 + suc (length bs))) ∙ append-nil (b ∷ bs)
+
+all-resolves : (bs : List ℕ) → writesResolve (all bs) 0 ≡ true
+unfolding all writesResolve resolves resolve isSome
+all-resolves bs = refl
+
 -- ---- what computing gives: over any writes whose data is known by its length, since it is too long to write out
 -- requests on a fresh container of n bytes
 carried : ℕ → List (List ℕ) → Outcome
@@ -126,6 +140,7 @@ record Computed : Type 0 where
       carried 16777216 (fiveAnd q) ≡ gives 0 (replicate 6 0) d (replicate 5 472 ++ (564 ∷ 16777216 ∷ []))
   past-leased : (q d : List ℕ) → Makes q d 16776653 →
       carried 16777216 (fiveAnd q) ≡ gives 0 (replicate 5 0 ++ (11 ∷ [])) [] (replicate 5 472 ++ (564 ∷ 564 ∷ []))
+  longest : (q d : List ℕ) → Makes q d 65488 → carried 16777216 (q ∷ []) ≡ gives 0 (0 ∷ []) d (472 ∷ 65960 ∷ [])
   no-request : (q : List ℕ) → length q ≡ 65537 → carried 16777216 (q ∷ []) ≡ gives 0 (3 ∷ []) [] (472 ∷ 472 ∷ [])
 
 computed : Computed
@@ -141,6 +156,8 @@ computed = record {
   last-leased = λ q d m. rw (m .is, m .resolved, m .made, m .long)
       (ap (λ (n : ℕ). gives 0 (replicate 6 0) d (replicate 5 472 ++ (564 ∷ (468 + n + 0 + 4 + 92) ∷ []))) (m .long));
   past-leased = λ q d m. rw (m .is, m .resolved, m .made, m .long) refl;
+  longest = λ q d m. rw (m .is, m .resolved, m .made, m .long)
+      (ap (λ (n : ℕ). gives 0 (0 ∷ []) d (472 ∷ (468 + n + 0 + 4 + 0) ∷ [])) (m .long));
   no-request = λ q l. rw l refl;
 }
 
@@ -150,12 +167,25 @@ record Read : Type 0 where
   past : requestOf (write (bytesAt 16776744 (65 ∷ []) ∷ [])) ≡ some (testWrite enabler [] (one 16776744) none)
   last-leased : requestOf (write (bytesAt 16776651 (65 ∷ []) ∷ [])) ≡ some (testWrite enabler [] (one 16776651) none)
   past-leased : requestOf (write (bytesAt 16776652 (65 ∷ []) ∷ [])) ≡ some (testWrite enabler [] (one 16776652) none)
+  longest : (bs : List ℕ) → length bs ≡ 65488 → requestOf (writeOf bs) ≡ some (testWrite enabler [] (all bs) none)
+  long : (bs : List ℕ) → length bs ≡ 65488 → length (writeOf bs) ≡ 65536
 
 read : Read
 unfolding numberAfter number numberAt digits join entryOffset entryCount entryOpcode entrySpecimen testEntryOk allFrom
     sumFrom testsFrom writesFrom testCount writeCount cutFlag newLength writesAt specimensAt newDataAt testWriteEnd
-    cutOk testWriteOk cutOf testWriteOf kindOf byKind requestOf one
-read = record { last = refl; past = refl; last-leased = refl; past-leased = refl }
+    cutOk testWriteOk cutOf testWriteOf kindOf byKind requestOf one all
+read = record {
+  last = refl;
+  past = refl;
+  last-leased = refl;
+  past-leased = refl;
+  longest = λ bs l. rw (append-nil bs, l, take-all 65488 bs (rw l (omega arith))) refl;
+  long = λ bs l. rw (append-nil bs, l) refl;
+}
+
+makes-all : (bs : List ℕ) → length bs ≡ 65488 → Makes (writeOf bs) bs 65488
+makes-all bs l =
+    record { writes = all bs; is = read .longest bs l; resolved = all-resolves bs; made = all-made bs; long = l }
 
 makes : (q : List ℕ) (at : ℕ) → requestOf q ≡ some (testWrite enabler [] (one at) none) →
     Makes q (behindZeros at (65 ∷ [])) (at + 1)
@@ -173,9 +203,12 @@ carried-blank : (n : ℕ) (c : List ℕ) (qs : List (List ℕ)) → Blank n c �
 unfolding carried
 carried-blank n c qs b h k = given-by c qs (created-blank n c b h k) ∙ rw (b .size) refl
 
-pub long-table : (middle long q : List ℕ) → Blank 65537 middle → Blank 16777216 long → length q ≡ 65537 →
-    map result (longCases middle long q) ≡ longResults
-long-table middle long q a b l =
+pub long-request : (bs : List ℕ) → length bs ≡ 65488 → length (writeOf bs) ≡ 65536
+long-request = read .long
+
+pub long-table : (middle long bs q : List ℕ) → Blank 65537 middle → Blank 16777216 long → length bs ≡ 65488 →
+    length q ≡ 65537 → map result (longCases middle long bs q) ≡ longResults bs
+long-table middle long bs q a b k l =
     let far : (qs : List (List ℕ)) → result (record { buffer = long; requests = qs }) ≡ carried 16777216 qs =
     λ qs. carried-blank 16777216 long qs b (omega arith) (omega arith) in
     ap₂ _∷_ (carried-blank 65537 middle [] a (omega arith) (omega arith) ∙ computed .untouched 65537)
@@ -184,4 +217,5 @@ long-table middle long q a b l =
     (ap₂ _∷_ (far _ ∙ computed .past _ _ (makes _ 16776744 (read .past)))
     (ap₂ _∷_ (far _ ∙ computed .last-leased _ _ (makes _ 16776651 (read .last-leased)))
     (ap₂ _∷_ (far _ ∙ computed .past-leased _ _ (makes _ 16776652 (read .past-leased)))
-    (ap₂ _∷_ (far _ ∙ computed .no-request q l) refl))))))
+    (ap₂ _∷_ (far _ ∙ computed .longest _ bs (makes-all bs k))
+    (ap₂ _∷_ (far _ ∙ computed .no-request q l) refl)))))))

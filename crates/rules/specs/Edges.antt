@@ -519,29 +519,36 @@ behindZeros n bs = replicate n 0 ++ bs
 abbrev pub fiveAnd : List ℕ → List (List ℕ)
 fiveAnd q = addLease 1 ∷ addLease 2 ∷ addLease 3 ∷ addLease 4 ∷ addLease 5 ∷ q ∷ []
 
+-- A test-and-write of 48 bytes and then these, which it writes at 0.
+abbrev pub writeOf : List ℕ → List ℕ
+writeOf bs = write (bytesAt 0 bs ∷ [])
+
 -- The table of long buffers: P35 (create in 65,537 bytes; in 16,777,216), P36 (in the latter a byte at the last place
--- that there is; at the next), P37 (the same two beside five leases, one of them extra), P38 (a request of 65,537
--- bytes). `middle` and `long` stand for any buffers of those two lengths, and q for any bytes.
-abbrev pub longCases : List ℕ → List ℕ → List ℕ → List Case
-longCases middle long q =
+-- that there is; at the next), P37 (the same two beside five leases, one of them extra), P38 (a request of 65,536
+-- bytes; of 65,537). `middle` and `long` stand for any buffers of those two lengths that do not begin with the magic,
+-- bs for any 65,488 bytes, q for any 65,537.
+abbrev pub longCases : List ℕ → List ℕ → List ℕ → List ℕ → List Case
+longCases middle long bs q =
     record { buffer = middle; requests = [] }
     ∷ record { buffer = long; requests = [] }
     ∷ record { buffer = long; requests = write (bytesAt 16776743 (65 ∷ []) ∷ []) ∷ [] }
     ∷ record { buffer = long; requests = write (bytesAt 16776744 (65 ∷ []) ∷ []) ∷ [] }
     ∷ record { buffer = long; requests = fiveAnd (write (bytesAt 16776651 (65 ∷ []) ∷ [])) }
     ∷ record { buffer = long; requests = fiveAnd (write (bytesAt 16776652 (65 ∷ []) ∷ [])) }
+    ∷ record { buffer = long; requests = writeOf bs ∷ [] }
     ∷ record { buffer = long; requests = q ∷ [] }
     ∷ []
 
 -- What each case gives, in the same order.
-abbrev pub longResults : List Outcome
-longResults =
+abbrev pub longResults : List ℕ → List Outcome
+longResults bs =
     gives 0 [] [] (472 ∷ [])
     ∷ gives 0 [] [] (472 ∷ [])
     ∷ gives 0 (0 ∷ []) (behindZeros 16776743 (65 ∷ [])) (472 ∷ 16777216 ∷ [])
     ∷ gives 0 (11 ∷ []) [] (472 ∷ 472 ∷ [])
     ∷ gives 0 (replicate 6 0) (behindZeros 16776651 (65 ∷ [])) (replicate 5 472 ++ (564 ∷ 16777216 ∷ []))
     ∷ gives 0 (replicate 5 0 ++ (11 ∷ [])) [] (replicate 5 472 ++ (564 ∷ 564 ∷ []))
+    ∷ gives 0 (0 ∷ []) bs (472 ∷ 65960 ∷ [])
     ∷ gives 0 (3 ∷ []) [] (472 ∷ 472 ∷ [])
     ∷ []
 
@@ -570,5 +577,7 @@ pub record EdgesHold : Type 0 where
   -- every row of the table of what is touched beside slack touches what stands beside it
   pub stretches-in-slack : map (touch (leasedWith 573 2)) fills ≡ filled
   -- every case of a long buffer gives its result
-  pub long-table : (middle long q : List ℕ) → Blank 65537 middle → Blank 16777216 long → length q ≡ 65537 →
-      map result (longCases middle long q) ≡ longResults
+  pub long-table : (middle long bs q : List ℕ) → Blank 65537 middle → Blank 16777216 long → length bs ≡ 65488 →
+      length q ≡ 65537 → map result (longCases middle long bs q) ≡ longResults bs
+  -- its request that writes bs has 65,536 bytes
+  pub long-request : (bs : List ℕ) → length bs ≡ 65488 → length (writeOf bs) ≡ 65536

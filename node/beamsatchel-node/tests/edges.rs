@@ -178,6 +178,8 @@ fn p38_requests_stay_short() {
     assert_eq!(number(&mut container, &longer), 3);
     assert_eq!((field(&container, 84), used(&container)), (0, 472));
     assert_eq!(number(&mut container, &longest), 0);
+    assert_eq!(data(&container), [b'A'; 65_488]);
+    assert_eq!(used(&container), 65_960);
 }
 
 #[test]
