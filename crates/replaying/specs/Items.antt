@@ -71,7 +71,7 @@ unfoldable pub numeralAt : List ℕ → ℕ → Item
 numeralAt s at = cond (standsAt s at 45) (negativeOf (decimalAt s (at + 1) 2147483648))
     (numberOf (decimalAt s at 4294967295))
 
--- The largest N of XX*N.
+-- The largest N of XX*N: enough for a request that is a little too long.
 abbrev pub mostRepeats : ℕ
 mostRepeats = 65540
 

@@ -12,7 +12,7 @@ ghost use Rattle.replaying.specs.Items.{inside, textAt, negated, numberO
 ghost use Rattle.replaying.specs.Items.{numeralAt, repeatAt, itemHere, itemAt, lineRight, lineBytes, Stepped};
 ghost use Rattle.replaying.specs.Items.{Written, Leads, lineAnswer};
 
-// The largest N of XX*N: enough for a container or a request that is a little too long.
+// The largest N of XX*N: enough for a request that is a little too long.
 const MOST_REPEATS: u32 = 65540;
 
 // Why a line is refused.
