@@ -5,6 +5,8 @@ use beamsatchel_model::{Container, Lease};
 
 /// The most bytes of the buffers here, for the sake of time; `long` has the longer ones.
 pub const MAX_LENGTH: usize = 65_536;
+/// The most data in them.
+pub const MAX_DATA: usize = MAX_LENGTH - 472;
 
 /// Tokens are few, so that requests meet them, several leases have the same, and the zero token
 /// occurs.

@@ -1,7 +1,7 @@
 //! Create, on buffers of any length and with any bytes in them.
 
 use crate::checker::Checker;
-use crate::containers;
+use crate::containers::{self, MAX_LENGTH};
 use crate::rng::Rng;
 use crate::tally::{Beside, Call};
 use beamsatchel_model::MAGIC;
@@ -30,7 +30,7 @@ fn create(flaws: &[u32], rng: &mut Rng, checker: &mut Checker) -> u32 {
     let length = match rng.below(100) {
         0..60 => rng.pick(&[472, 473, 474, 563, 564]),
         60..99 => rng.within(472..=1500),
-        _ => rng.pick(&[65_536, 65_537]),
+        _ => rng.pick(&[MAX_LENGTH, MAX_LENGTH + 1]),
     };
     let length = if has(1) {
         rng.pick(&[0, 1, 32, 468, 471])

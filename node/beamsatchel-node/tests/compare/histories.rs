@@ -4,6 +4,7 @@
 
 use crate::case::Case;
 use crate::checker::Checker;
+use crate::containers::MAX_LENGTH;
 use crate::requests;
 use crate::rng::Rng;
 use beamsatchel_model::{Container, Request, TestAndWrite};
@@ -16,7 +17,7 @@ pub fn run(cases: u64, rng: &mut Rng, checker: &mut Checker) {
         let length = match rng.below(10) {
             0..7 => rng.within(472..=1500),
             7..9 => rng.within(1500..=6500),
-            _ => rng.pick(&[472, 473, 564, 65_536]),
+            _ => rng.pick(&[472, 473, 564, MAX_LENGTH]),
         };
         let mut container = create(length, rng, checker);
         let mut accepted = Vec::new();

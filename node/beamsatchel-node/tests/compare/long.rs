@@ -7,12 +7,12 @@ use crate::containers;
 use crate::histories;
 use crate::requests;
 use crate::rng::Rng;
-use beamsatchel_model::{Container, Lease, Read, Request, Test, TestAndWrite, Write};
+use beamsatchel_model::{
+    Container, Lease, Read, Request, Test, TestAndWrite, Write, LONGEST_REQUEST,
+};
 
 /// The most bytes of a container's buffer.
 const LONGEST: usize = 16_777_216;
-/// The most bytes of a request.
-const LONGEST_REQUEST: usize = 65_536;
 
 pub fn run(rng: &mut Rng, checker: &mut Checker) {
     let between = rng.within(LONGEST_REQUEST + 2..=LONGEST - 2);
@@ -58,7 +58,7 @@ pub enum Long {
     FarGrowthOfExtras,
     /// They ended with the longest buffer.
     FarGrowthFits,
-    /// A byte was missing for that.
+    /// In the longest buffer a byte was missing for it.
     FarGrowthLacksAByte,
     /// It grew so inside the slack.
     FarGrowthInSlack,
@@ -74,10 +74,15 @@ pub enum Long {
     /// A test or a read had a piece of such a length.
     TestPiece,
     ReadPiece,
+    /// The test was false.
+    FalseTestPiece,
+    /// The reply space was too short for it.
+    TestPieceLacksSpace,
+    ReadPieceLacksSpace,
 }
 
 impl Long {
-    pub const ALL: [Long; 23] = [
+    pub const ALL: [Long; 26] = [
         Long::Between,
         Long::OneLess,
         Long::Longest,
@@ -101,6 +106,9 @@ impl Long {
         Long::CancelledExtra,
         Long::TestPiece,
         Long::ReadPiece,
+        Long::FalseTestPiece,
+        Long::TestPieceLacksSpace,
+        Long::ReadPieceLacksSpace,
     ];
 
     /// What a case met that was answered with this number.
@@ -150,68 +158,78 @@ fn of_request(old: &Container, before: &Case, number: u32, after: &Case) -> Vec<
         return Vec::new();
     };
     let new = Container::from_bytes(&after.container).expect("well formed");
-    let extras = old.extras() > 0;
-    let before_extras = is_long(old.data.len() + old.slack);
-    let mut met = Vec::new();
+    let behind_much = is_long(old.data.len() + old.slack);
+    let mut met: Vec<Long> = of_pieces(old, &request, number).into_iter().collect();
     match (request, number) {
-        (Request::TestAndWrite(asked), 0) => {
-            let grown = new.data.len().saturating_sub(old.data.len());
-            let cut = old.data.len().saturating_sub(new.data.len());
-            let moved = new.count() > old.count();
-            if is_long(grown) && moved {
-                met.push(Long::FarGrowth);
-                met.extend(extras.then_some(Long::FarGrowthOfExtras));
-                met.extend((new.used() == LONGEST as u64).then_some(Long::FarGrowthFits));
-            }
-            met.extend((is_long(grown) && !moved).then_some(Long::FarGrowthInSlack));
-            if is_long(cut) {
-                met.push(Long::FarCut);
-                met.extend(extras.then_some(Long::FarCutBesideExtras));
-            }
-            let ends = asked
-                .writes
-                .iter()
-                .map(|write| write.offset as usize + write.data.len());
-            met.extend((ends.max() > Some(LONGEST)).then_some(Long::FarOnTheWay));
-            let mut tests = asked.tests.iter();
-            let long = tests.any(|test| has_long_piece(old, test.offset, test.length));
-            met.extend(long.then_some(Long::TestPiece));
+        (Request::TestAndWrite(asked), 0) => met.extend(of_writes(old, &asked, &new)),
+        (Request::TestAndWrite(asked), 11) if old.length == LONGEST => {
+            met.extend(lacks_a_byte(old, before, asked).then_some(Long::FarGrowthLacksAByte));
         }
-        (Request::TestAndWrite(asked), 11) => {
-            // Without its last byte the last write would fit.
-            let mut shorter = asked;
-            shorter.writes.last_mut().expect("it grew").data.pop();
-            let mut with_shorter = before.clone();
-            with_shorter.request = requests::encode(&Request::TestAndWrite(shorter));
-            let number = apply(&mut with_shorter);
-            met.extend((number == 0).then_some(Long::FarGrowthLacksAByte));
-        }
-        (Request::Add(_), 0) if before_extras && new.extras() > old.extras() => {
+        (Request::Add(_), 0) if behind_much && new.extras() > old.extras() => {
             met.push(Long::AddedExtra)
         }
-        (Request::Renew { .. }, 0) if before_extras && new.places[4..] != old.places[4..] => {
+        (Request::Renew { .. }, 0) if behind_much && new.places[4..] != old.places[4..] => {
             met.push(Long::RenewedExtra)
         }
-        (Request::Cancel { .. }, 0) if before_extras && new.extras() < old.extras() => {
+        (Request::Cancel { .. }, 0) if behind_much && new.extras() < old.extras() => {
             met.push(Long::CancelledExtra)
-        }
-        (Request::Read(reads), 0) => {
-            let mut reads = reads.iter();
-            let long = reads.any(|read| has_long_piece(old, read.offset, read.length));
-            met.extend(long.then_some(Long::ReadPiece));
         }
         _ => {}
     }
     met
 }
 
-fn apply(case: &mut Case) -> u32 {
-    beamsatchel_model::apply(&mut case.container, &case.request, &mut case.reply).number
+/// What a test-and-write that was done made of the data.
+fn of_writes(old: &Container, asked: &TestAndWrite, new: &Container) -> Vec<Long> {
+    let extras = old.extras() > 0;
+    let grown = new.data.len().saturating_sub(old.data.len());
+    let cut = old.data.len().saturating_sub(new.data.len());
+    let mut met = Vec::new();
+    if is_long(grown) && new.count() > old.count() {
+        met.push(Long::FarGrowth);
+        met.extend(extras.then_some(Long::FarGrowthOfExtras));
+        met.extend((new.used() == LONGEST as u64).then_some(Long::FarGrowthFits));
+    }
+    if is_long(grown) && new.count() == old.count() {
+        met.push(Long::FarGrowthInSlack);
+    }
+    if is_long(cut) {
+        met.push(Long::FarCut);
+        met.extend(extras.then_some(Long::FarCutBesideExtras));
+    }
+    let mut writes = asked.writes.iter().filter(|write| !write.data.is_empty());
+    let far = writes.any(|write| write.offset as usize + write.data.len() > LONGEST);
+    met.extend(far.then_some(Long::FarOnTheWay));
+    met
 }
 
-fn has_long_piece(container: &Container, offset: i32, length: u32) -> bool {
-    let rest = container.data.len().saturating_sub(offset as usize);
-    is_long(rest.min(length as usize))
+/// What became of a piece of more than a request's length.
+fn of_pieces(old: &Container, request: &Request, number: u32) -> Option<Long> {
+    let mut extents = requests::extents(request).into_iter();
+    let long = extents.any(|(offset, length)| {
+        let rest = old.data.len().saturating_sub(offset.max(0) as usize);
+        is_long(rest.min(length as usize))
+    });
+    let met = match (request, number) {
+        (Request::TestAndWrite(_), 0) => Long::TestPiece,
+        (Request::TestAndWrite(_), 8) => Long::FalseTestPiece,
+        (Request::TestAndWrite(_), 7) => Long::TestPieceLacksSpace,
+        (Request::Read(_), 0) => Long::ReadPiece,
+        (Request::Read(_), 7) => Long::ReadPieceLacksSpace,
+        _ => return None,
+    };
+    long.then_some(met)
+}
+
+/// Whether the request would be done, and make the data grow by more than a request's length, without the last byte of
+/// its last write.
+fn lacks_a_byte(old: &Container, before: &Case, mut asked: TestAndWrite) -> bool {
+    asked.writes.last_mut().expect("it grew").data.pop();
+    let mut case = before.clone();
+    case.request = requests::encode(&Request::TestAndWrite(asked));
+    beamsatchel_model::apply(&mut case.container, &case.request, &mut case.reply);
+    let new = Container::from_bytes(&case.container).expect("well formed");
+    is_long(new.data.len() - old.data.len())
 }
 
 fn of_last_byte(container: &[u8]) -> Option<Long> {
@@ -376,7 +394,8 @@ fn leasing(rng: &mut Rng, checker: &mut Checker, container: &Container) {
     }
 }
 
-/// Pieces that begin at either end of the data, and of all of it; a test of all against its first bytes.
+/// Pieces that begin at either end of the data, and of all of it; tests of all against its first bytes, which hold and
+/// do not; and a byte too little space.
 fn looking(rng: &mut Rng, checker: &mut Checker, container: &Container) {
     let size = container.data.len();
     let piece = |offset: usize, length: u32| Read {
@@ -389,25 +408,31 @@ fn looking(rng: &mut Rng, checker: &mut Checker, container: &Container) {
         piece(size, 1),
         piece(size / 2, 70_000),
     ];
-    for reads in [near, vec![piece(rng.below(5), u32::MAX)]] {
-        assert_eq!(run_request(checker, container, &Request::Read(reads)), 0);
+    let all = Request::Read(vec![piece(rng.below(5), u32::MAX)]);
+    for request in [&Request::Read(near), &all] {
+        assert_eq!(run_request(checker, container, request), 0);
     }
+    assert_eq!(run_with_less_space(checker, container, &all), 7);
     // The specimen is a prefix, or all of it.
     let specimen = container.data[..size.min(60_000)].to_vec();
-    let opcode = if specimen.len() < size { 6 } else { 3 };
-    let request = TestAndWrite {
-        tests: vec![Test {
-            offset: 0,
-            length: u32::MAX,
-            opcode,
-            specimen,
-        }],
-        ..write(size as i32 - 1, b"X")
+    let (holds, fails) = if specimen.len() < size {
+        (6, 2)
+    } else {
+        (3, 4)
     };
-    assert_eq!(
-        run_request(checker, container, &Request::TestAndWrite(request)),
-        0
-    );
+    for (opcode, number) in [(holds, 0), (fails, 8)] {
+        let request = Request::TestAndWrite(TestAndWrite {
+            tests: vec![Test {
+                offset: 0,
+                length: u32::MAX,
+                opcode,
+                specimen: specimen.clone(),
+            }],
+            ..write(size as i32 - 1, b"X")
+        });
+        assert_eq!(run_request(checker, container, &request), number);
+        assert_eq!(run_with_less_space(checker, container, &request), 7);
+    }
 }
 
 /// Requests one after the other on the longest container, each on what the one before left: samples far apart, cuts, and
@@ -480,6 +505,13 @@ fn run_request(checker: &mut Checker, container: &Container, request: &Request) 
         requests::encode(request),
         space,
     )
+}
+
+/// The same with a byte less of it.
+fn run_with_less_space(checker: &mut Checker, container: &Container, request: &Request) -> u32 {
+    let space = requests::reply_length(request, container) - 1;
+    let bytes = container.to_bytes();
+    run_bytes(checker, bytes, requests::encode(request), space)
 }
 
 fn run_bytes(checker: &mut Checker, container: Vec<u8>, request: Vec<u8>, space: usize) -> u32 {

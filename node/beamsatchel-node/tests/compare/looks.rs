@@ -82,17 +82,7 @@ impl Look {
         ) else {
             return Vec::new();
         };
-        let entries: Vec<(i32, u32)> = match &request {
-            Request::TestAndWrite(request) => {
-                let tests = request.tests.iter();
-                tests.map(|test| (test.offset, test.length)).collect()
-            }
-            Request::Read(reads) => reads
-                .iter()
-                .map(|read| (read.offset, read.length))
-                .collect(),
-            _ => return Vec::new(),
-        };
+        let entries = requests::extents(&request);
         let size = container.data.len();
         let needed = requests::reply_length(&request, &container);
         let looks = entries.iter().map(|entry| Look::of(entry.0, entry.1, size));

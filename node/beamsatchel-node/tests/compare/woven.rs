@@ -4,6 +4,7 @@
 
 use crate::case::Case;
 use crate::checker::Checker;
+use crate::containers::MAX_LENGTH;
 use crate::histories::{create, next_request};
 use crate::requests;
 use crate::rng::Rng;
@@ -22,7 +23,7 @@ pub fn run(cases: u64, rng: &mut Rng, checker: &mut Checker) {
         let length = match rng.below(10) {
             0..3 => rng.within(472..=1000),
             3..9 => rng.within(1000..=8000),
-            _ => rng.pick(&[2000, 4000, 65_536]),
+            _ => rng.pick(&[2000, 4000, MAX_LENGTH]),
         };
         let fresh = create(length, rng, checker);
         let data = sequence(rng, &fresh, requests::any_data_request);

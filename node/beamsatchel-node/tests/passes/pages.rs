@@ -1,6 +1,6 @@
-//! A buffer whose pages tell when they are used. While it is watched, all pages are closed but those that were used
+//! A buffer whose pages tell when they are used. While it is watched, all pages are closed but the few that were opened
 //! last: a use of another one raises a signal, whose handler counts the visit and opens the page, at first for reading
-//! alone, so that a store raises a second one.
+//! alone, so that a store raises a second one. What comes back to a page that is still open is no new visit.
 
 #![allow(unsafe_code)]
 

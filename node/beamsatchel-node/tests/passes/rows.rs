@@ -174,6 +174,34 @@ fn rows() -> Vec<Row> {
             )
         },
         Row {
+            number: 11,
+            ..done(
+                "a far write a byte too far",
+                Little,
+                write(MOST, b"Z", None),
+                tail(),
+            )
+        },
+        Row {
+            number: 8,
+            ..done(
+                "a false test of all of much data, against 60,000 bytes",
+                Much,
+                test(MOST, &[b'E'; 60_000]),
+                // It differs at the first byte.
+                data(1, 0),
+            )
+        },
+        Row {
+            number: 7,
+            ..done(
+                "a read of more than the reply space holds",
+                Much,
+                [&[5, 2, 0, 0][..], &[&read(0, MOST)[4..]; 2].concat()].concat(),
+                data(0, 0),
+            )
+        },
+        Row {
             number: 2,
             ..done(
                 "a far write, where the last byte is not zero",
@@ -188,7 +216,7 @@ fn rows() -> Vec<Row> {
 pub fn run() {
     let mut pages = Pages::new();
     println!("pages of a container of 16 MiB, {} in all", pages.count());
-    println!("{:<58} {:>7} {:>7} {:>7}", "", "visited", "twice", "stored");
+    println!("{:<58} {:>7} {:>7} {:>7}", "", "visited", "again", "stored");
     for row in rows() {
         fill(pages.bytes(), row.holding);
         let (number, visits) = pages.watch(|bytes| (row.call)(bytes));

@@ -2,7 +2,7 @@
 
 use super::{fresh, run_case, ENABLER};
 use crate::checker::Checker;
-use crate::containers::{self, Sizes};
+use crate::containers::{self, Sizes, MAX_DATA, MAX_LENGTH};
 use crate::requests;
 use crate::rng::Rng;
 
@@ -39,8 +39,9 @@ fn size_fields(checker: &mut Checker) {
         2,
         128,
         528,
-        65_064,
-        65_536,
+        MAX_DATA as u64,
+        MAX_LENGTH as u64,
+        // of the longest container
         16_776_744,
         16_777_216,
         1 << 31,
@@ -48,7 +49,7 @@ fn size_fields(checker: &mut Checker) {
         1 << 63,
     ];
     let wraps = [0, 468, 472, 564].map(u64::wrapping_neg);
-    for length in [472, 600, 1000, 65_536] {
+    for length in [472, 600, 1000, MAX_LENGTH] {
         for size in powers.into_iter().chain(wraps).flat_map(near) {
             for shift in [0, 1, u64::MAX] {
                 let mut bytes = fresh(length).to_bytes();

@@ -2,9 +2,10 @@
 
 use super::{fresh, holding, run_case, test, write};
 use crate::checker::Checker;
+use crate::containers::{MAX_DATA, MAX_LENGTH};
 use crate::requests;
 use crate::rng::Rng;
-use beamsatchel_model::{Read, Request, Test, TestAndWrite, Write};
+use beamsatchel_model::{Read, Request, Test, TestAndWrite, Write, LONGEST_REQUEST};
 
 pub fn run(rng: &mut Rng, checker: &mut Checker) {
     long_requests(checker);
@@ -15,11 +16,11 @@ pub fn run(rng: &mut Rng, checker: &mut Checker) {
 
 /// Requests of 65,535, 65,536 and 65,537 bytes with every sum right.
 fn long_requests(checker: &mut Checker) {
-    for length in [65_535, 65_536, 65_537] {
-        let expected = if length <= 65_536 { 0 } else { 3 };
+    for length in [LONGEST_REQUEST - 1, LONGEST_REQUEST, LONGEST_REQUEST + 1] {
+        let expected = if length <= LONGEST_REQUEST { 0 } else { 3 };
         // by new data, cut to what fits
         let by_data = TestAndWrite {
-            cut: Some(65_064),
+            cut: Some(MAX_DATA as u32),
             ..write(0, vec![b'A'; length - 48])
         };
         // by a specimen
@@ -33,9 +34,9 @@ fn long_requests(checker: &mut Checker) {
         for request in [by_data, by_specimen] {
             let request = requests::encode(&Request::TestAndWrite(request));
             assert_eq!(request.len(), length);
-            for buffer in [472, 65_536] {
+            for buffer in [472, MAX_LENGTH] {
                 let number = run_case(checker, &fresh(buffer).to_bytes(), request.clone(), 4);
-                if buffer == 65_536 {
+                if buffer == MAX_LENGTH {
                     assert_eq!(number, expected);
                 }
             }
@@ -57,7 +58,7 @@ fn offsets_and_lengths(rng: &mut Rng, checker: &mut Checker) {
             .chain(size - 1..=size + 1)
             .chain(-size - 1..=-size)
             .chain(327..=329) // the end of the room
-            .chain(65_063..=65_065)
+            .chain(MAX_DATA as i32 - 1..=MAX_DATA as i32 + 1)
             .chain(16_776_743..=16_776_745) // the end of the longest data
             .chain([i32::MIN, i32::MIN + 1, i32::MAX - 1, i32::MAX]);
         let size = size as u32;

@@ -1,14 +1,16 @@
 use super::{fresh, run_case, write};
 use crate::checker::Checker;
+use crate::containers::MAX_LENGTH;
 use crate::requests;
-use beamsatchel_model::{Request, TestAndWrite};
+use beamsatchel_model::{Request, TestAndWrite, LONGEST_REQUEST};
 
 /// Data up to the buffer's end and one byte past it: by one write, past a gap, with a cut.
 pub fn run(checker: &mut Checker) {
-    for length in [472, 473, 474, 481, 482, 600, 65_535, 65_536] {
+    for length in [472, 473, 474, 481, 482, 600, MAX_LENGTH - 1, MAX_LENGTH] {
         let most = length as i64 - 472;
         for last in [most - 1, most, most + 1, most + 2] {
-            if !(1..=65_488).contains(&last) {
+            // What one request can write.
+            if !(1..=LONGEST_REQUEST as i64 - 48).contains(&last) {
                 continue;
             }
             let full = write(0, vec![b'A'; last as usize]);

@@ -1,7 +1,7 @@
 //! Requests with good format that are aimed at a container: most are done, and each refusal
 //! occurs.
 
-use crate::containers::{expiry, lease, token};
+use crate::containers::{self, expiry, lease, token};
 use crate::rng::Rng;
 use beamsatchel_model::{Container, Read, Request, Test, TestAndWrite, Write};
 
@@ -176,14 +176,18 @@ fn offset(rng: &mut Rng, container: &Container) -> i32 {
         0..120 => rng.below(size + 1) as i32,
         120..175 => (size + rng.below(30)) as i32,
         175..190 => (size + container.slack + rng.below(3)).saturating_sub(1) as i32,
-        190..197 => rng.pick(&[
-            i32::MAX,
-            i32::MAX - 1,
-            65_064,
-            65_065,
-            16_776_743,
-            16_776_744,
-        ]),
+        190..197 => {
+            // the last place of the longest data here, the next one, and the same of the longest there is
+            let last = containers::MAX_DATA as i32 - 1;
+            rng.pick(&[
+                i32::MAX,
+                i32::MAX - 1,
+                last,
+                last + 1,
+                16_776_743,
+                16_776_744,
+            ])
+        }
         _ => rng.pick(&[-1, -2, i32::MIN, i32::MIN + 1, -(size as i32) - 1]),
     }
 }

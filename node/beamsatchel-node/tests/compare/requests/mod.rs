@@ -8,4 +8,4 @@ mod replies;
 pub use aimed::{any, any_data_request, any_lease_request};
 pub use broken::{broken, unknown};
 pub use encode::encode;
-pub use replies::{reply_length, reply_space};
+pub use replies::{extents, reply_length, reply_space};

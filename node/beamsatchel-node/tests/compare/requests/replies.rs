@@ -1,24 +1,28 @@
 use crate::rng::Rng;
 use beamsatchel_model::{Container, Request};
 
+/// Where the tests of a test-and-write, or the reads of a read, look, and at how many bytes.
+pub fn extents(request: &Request) -> Vec<(i32, u32)> {
+    match request {
+        Request::TestAndWrite(request) => {
+            let tests = request.tests.iter();
+            tests.map(|test| (test.offset, test.length)).collect()
+        }
+        Request::Read(reads) => {
+            let reads = reads.iter();
+            reads.map(|read| (read.offset, read.length)).collect()
+        }
+        _ => Vec::new(),
+    }
+}
+
 /// The reply's length on a well-formed container.
 pub fn reply_length(request: &Request, container: &Container) -> usize {
-    let piece = |offset: i32, length: u32| {
+    let pieces = extents(request).into_iter().map(|(offset, length)| {
         let rest = container.data.len().saturating_sub(offset.max(0) as usize);
         4 + rest.min(length as usize)
-    };
-    match request {
-        Request::TestAndWrite(request) => request
-            .tests
-            .iter()
-            .map(|test| piece(test.offset, test.length))
-            .sum(),
-        Request::Read(reads) => reads
-            .iter()
-            .map(|read| piece(read.offset, read.length))
-            .sum(),
-        _ => 0,
-    }
+    });
+    pieces.sum()
 }
 
 /// Reply space for a reply: exactly enough, more, one byte short, or none.
