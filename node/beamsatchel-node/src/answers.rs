@@ -315,7 +315,7 @@ const LENGTH: usize = 4;
 /// assert_eq!(reply.pieces().collect::<Vec<_>>(), [&b"AB"[..], b""]);
 /// assert!(Reply::new(&bytes, 1).is_none());
 /// ```
-#[derive(Clone, Copy, Debug, PartialEq, Eq)]
+#[derive(Clone, Copy, PartialEq, Eq)]
 pub struct Reply<'r> {
     table: &'r [u8],
     pieces: &'r [u8],
@@ -349,6 +349,16 @@ impl<'r> Reply<'r> {
     /// Whether the request had no entries.
     pub fn is_empty(&self) -> bool {
         self.table.is_empty()
+    }
+}
+
+/// The lengths of the pieces: there may be 256 MiB of them.
+impl fmt::Debug for Reply<'_> {
+    fn fmt(&self, f: &mut fmt::Formatter<'_>) -> fmt::Result {
+        let lengths: Vec<u32> = lengths(self.table).collect();
+        f.debug_struct("Reply")
+            .field("piece_lens", &lengths)
+            .finish_non_exhaustive()
     }
 }
 

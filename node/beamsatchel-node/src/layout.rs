@@ -1,6 +1,6 @@
 //! The tables of `docs/RULES.md`: where the fields of a container and of a share begin, and the sizes of what repeats.
 //!
-//! Requests need none of this: the builders write them. It is for those who look at bytes.
+//! Requests need none of this: the builders write them. It is for those who look at bytes, or are sent requests.
 
 /// The container's first 32 bytes.
 pub const MAGIC: &[u8; 32] = b"tahoe mutable container v1\x0A\x75\x09\x44\x03\x8E";
@@ -28,6 +28,8 @@ pub const MAX_EXTRAS: usize = 60;
 pub const MIN_LENGTH: usize = 472;
 /// The most bytes of a container's buffer.
 pub const MAX_LENGTH: usize = 16_777_216;
+/// The most bytes of a request.
+pub const MAX_REQUEST: usize = 65_536;
 
 /// The header of an SDMF share.
 pub mod share {

@@ -1,12 +1,10 @@
 //! Builders for the five requests. None of them can build a malformed one.
 
 use crate::container::Lease;
-use crate::layout::{MAX_LENGTH, MIN_LENGTH};
+use crate::layout::{MAX_LENGTH, MAX_REQUEST, MIN_LENGTH};
 use crate::secrets::{CancelToken, RenewalToken, WriteEnabler};
 use std::fmt;
 
-/// The most bytes of a request.
-const MAX_REQUEST: usize = 65_536;
 /// The most tests, writes or reads of a request.
 const MAX_ENTRIES: usize = 16;
 /// Bytes of a test-and-write before its first entry.
@@ -168,7 +166,7 @@ impl TestAndWrite {
     }
 
     /// How many bytes one more write can have, since a request has at most 65,536 and a container up to 16 MiB: data
-    /// that is longer takes several requests.
+    /// that is longer takes several requests. 0 may also mean that not even an empty write is taken any more.
     ///
     /// ```
     /// use beamsatchel_node::{Container, NodeId, TestAndWrite, WriteEnabler};
@@ -207,7 +205,7 @@ impl TestAndWrite {
     }
 
     /// Reply space of this length is always enough, whatever the container. A test of more than there can be counts as
-    /// 16 MiB here: [`reply_bound_in`](TestAndWrite::reply_bound_in) asks for less.
+    /// 16,776,744 bytes here: [`reply_bound_in`](TestAndWrite::reply_bound_in) asks for less.
     pub fn reply_bound(&self) -> usize {
         self.reply_bound_in(MAX_LENGTH)
     }
@@ -370,7 +368,7 @@ impl ReadData {
     }
 
     /// Reply space of this length is always enough, whatever the container. A read of more than there can be counts as
-    /// 16 MiB here: [`reply_bound_in`](ReadData::reply_bound_in) asks for less.
+    /// 16,776,744 bytes here: [`reply_bound_in`](ReadData::reply_bound_in) asks for less.
     pub fn reply_bound(&self) -> usize {
         self.reply_bound_in(MAX_LENGTH)
     }

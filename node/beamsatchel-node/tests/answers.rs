@@ -54,6 +54,19 @@ const REASONS: [(Reason, u32, &str); 20] = [
     ),
 ];
 
+/// Of a reply the lengths are told, and not the bytes, of which there may be many.
+#[test]
+fn a_reply_in_debug_words() {
+    let bytes = [0, 0, 0, 2, 0, 0, 0, 0, 0, 0, 0, 1, 0x41, 0x42, 0x43];
+    let reply = Reply::new(&bytes, 3).unwrap();
+    let words = "Reply { piece_lens: [2, 0, 1], .. }";
+    assert_eq!(format!("{reply:?}"), words);
+    assert_eq!(
+        format!("{:?}", Written::Done(reply)),
+        format!("Done({words})")
+    );
+}
+
 #[test]
 fn reasons_have_their_numbers_and_sentences() {
     assert_eq!(Reason::ALL, REASONS.map(|(reason, ..)| reason));
