@@ -305,7 +305,7 @@ fn long_rows(libraries: &[Library]) {
         for library in libraries {
             ready();
             if call(library) != 0 {
-                println!("no longer containers, since not every archive takes them");
+                println!("long containers are left out, since not every archive takes them");
                 return;
             }
         }

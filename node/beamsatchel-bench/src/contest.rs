@@ -40,7 +40,8 @@ pub fn contest(sides: &mut [Side], mut ready: impl FnMut(usize)) -> Vec<Samples>
     sample(sides, SAMPLES, calls, ready)
 }
 
-/// Times sides against each other whose every call needs something done before, and is long beside the clock's own cost.
+/// Times sides against each other whose every call needs something done before. A call is to be long beside the clock's
+/// own cost, of some 20 ns.
 pub fn contest_each(sides: &mut [Side], ready: impl FnMut(usize)) -> Vec<Samples> {
     sample(sides, LONG_SAMPLES, 1, ready)
 }

@@ -1,5 +1,5 @@
 //! What a request costs in longer and longer containers: against plain Rust, and against plain passes over the same
-//! memory, which nothing that has to look at all of it, or to change all of it, can beat.
+//! memory, which tell how fast that is.
 
 use crate::contest::{contest_each, Side};
 use crate::work::Slot;
@@ -31,7 +31,7 @@ enum Passes {
 impl Passes {
     fn make(self, bytes: &mut [u8], reply: &mut [u8]) {
         if let Passes::Read | Passes::ReadAndFill = self {
-            black_box(bytes.iter().fold(0, |seen, byte| seen | byte));
+            black_box(read(bytes));
         }
         match self {
             Passes::Read => {}
@@ -47,6 +47,14 @@ impl Passes {
             _ => count,
         }
     }
+}
+
+/// A pass that reads: in blocks so long that nothing but the loads counts, and without an exit.
+fn read(bytes: &[u8]) -> u8 {
+    let or = |seen: u8, bytes: &[u8]| bytes.iter().fold(seen, |seen, byte| seen | byte);
+    let blocks = bytes.chunks_exact(512);
+    let rest = or(0, blocks.remainder());
+    blocks.fold(rest, |seen, block| seen | or(0, block))
 }
 
 /// A request on a slot of some length.
@@ -109,11 +117,11 @@ fn of_length(length: usize) -> [Row; 4] {
 pub fn against_rust_and_memory() {
     println!("\none call on a container as it was made, medians in microseconds;");
     println!(
-        "GB of memory read, filled or copied in a second by the library, and by plain passes alone"
+        "GB read, filled or copied in a second by the library; how many times as long as plain passes"
     );
     println!(
         "{:<50} {:>8} {:>10} {:>6} {:>8} {:>8} {:>8}",
-        "", "library", "plain Rust", "ratio", "passes", "GB/s", "of them"
+        "", "library", "plain Rust", "ratio", "passes", "GB/s", "over"
     );
     rows().for_each(|row| print(&row));
 }

@@ -15,6 +15,8 @@ use std::hint::black_box;
 use std::path::PathBuf;
 use work::{Player, Slot, Source, NEW_SHARES};
 
+const USAGE: &str = "usage: beamsatchel-bench [BEFORE.a AFTER.a...]";
+
 fn main() {
     let named: Vec<PathBuf> = std::env::args_os().skip(1).map(PathBuf::from).collect();
     let done = match &named[..] {
@@ -23,11 +25,15 @@ fn main() {
             lengths::against_rust_and_memory();
             Ok(())
         }
+        [help] if help.as_os_str() == "--help" => {
+            println!("{USAGE}");
+            Ok(())
+        }
         [_] => Err("one archive has nothing beside it".to_string()),
         archives => archives::against_each_other(archives),
     };
     if let Err(fault) = done {
-        eprintln!("{fault}; usage: beamsatchel-bench [BEFORE.a AFTER.a...]");
+        eprintln!("{fault}; {USAGE}");
         std::process::exit(2);
     }
 }
