@@ -4,9 +4,7 @@ mod common;
 
 use beamsatchel_model as model;
 use beamsatchel_node::ffi::{self, ShareArguments};
-
-const NODE: [u8; 20] = [7; 20];
-const ENABLER: [u8; 32] = [0xEE; 32];
+use common::raw::{add, cancel, reads, write, Write, ENABLER, NODE};
 
 /// Applies a request by the library and by the model, which must agree.
 fn apply(container: &mut [u8], request: &[u8], reply: &mut [u8]) -> (u32, u64) {
@@ -29,22 +27,6 @@ fn fresh(length: usize) -> Vec<u8> {
     container
 }
 
-/// An offset and new data.
-type Write<'a> = (i32, &'a [u8]);
-
-/// A kind 1 request without tests.
-fn write(writes: &[Write], cut: Option<u32>) -> Vec<u8> {
-    let mut request = vec![1, 0, writes.len() as u8, u8::from(cut.is_some())];
-    request.extend(cut.unwrap_or(0).to_be_bytes());
-    request.extend(ENABLER);
-    for (offset, data) in writes {
-        request.extend(offset.to_be_bytes());
-        request.extend((data.len() as u32).to_be_bytes());
-    }
-    writes.iter().for_each(|(_, data)| request.extend(*data));
-    request
-}
-
 /// A kind 1 request with one test of up to ten bytes at 0, and one write at 0.
 fn test(opcode: u8, specimen: &[u8], data: &[u8]) -> Vec<u8> {
     let mut request = vec![1, 1, 1, 0, 0, 0, 0, 0];
@@ -54,19 +36,6 @@ fn test(opcode: u8, specimen: &[u8], data: &[u8]) -> Vec<u8> {
     request.extend(specimen);
     request.extend(data);
     request
-}
-
-/// A kind 2 request: the lease of an owner, with expiry 7 and tokens of bytes that are the owner's number.
-fn add(owner: u8) -> Vec<u8> {
-    let mut request = vec![2, 0, 0, 0, owner, 0, 0, 0, 7];
-    request.extend([owner; 64]);
-    request.extend(NODE);
-    request
-}
-
-/// A kind 4 request for that lease.
-fn cancel(owner: u8) -> Vec<u8> {
-    [&[4][..], &[owner; 32]].concat()
 }
 
 fn number(container: &mut [u8], request: &[u8]) -> u32 {
@@ -309,16 +278,6 @@ fn the_whole_request() {
     assert_eq!(apply(&mut container, &request, &mut reply), (0, 4));
     assert_eq!(reply, [0, 0, 0, 0, 0xFF, 0xFF]);
     assert_eq!(data(&container), [0, 0, 0, 0x41, 0x42]);
-}
-
-/// A kind 5 request: offsets and lengths.
-fn reads(entries: &[(i32, u32)]) -> Vec<u8> {
-    let mut request = vec![5, entries.len() as u8, 0, 0];
-    for (offset, length) in entries {
-        request.extend(offset.to_be_bytes());
-        request.extend(length.to_be_bytes());
-    }
-    request
 }
 
 /// What a request gives on `ABCDE`, beside so many bytes 9: number, count and reply space.

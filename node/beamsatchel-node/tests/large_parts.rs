@@ -2,79 +2,24 @@
 //! long. No page of them is in memory: they are read-only, and each share is refused before a byte of its parts is
 //! copied. A store to the space would end the test with a signal.
 #![cfg(target_os = "linux")]
-#![allow(unsafe_code)]
 
 mod common;
 
 use beamsatchel_model as model;
 use beamsatchel_node::ffi::{self, ShareArguments};
+use common::memory::{Access, Memory};
 use common::modelled;
-use std::ffi::{c_int, c_long, c_void};
-
-extern "C" {
-    fn mmap(
-        at: *mut c_void,
-        length: usize,
-        access: c_int,
-        flags: c_int,
-        file: c_int,
-        offset: c_long,
-    ) -> *mut c_void;
-    fn munmap(at: *mut c_void, length: usize) -> c_int;
-}
-
-const READ: c_int = 1;
-const PRIVATE_AND_ANONYMOUS: c_int = 0x22;
-/// No memory is set aside for the pages.
-const NO_RESERVE: c_int = 0x4000;
 
 /// The first number that four bytes do not hold.
 const LIMIT: usize = 1 << 32;
 /// Longer than every share here.
 const LENGTH: usize = 2 * LIMIT;
 
-/// Zeros that can only be read.
-struct Zeros(*mut u8);
-
-impl Zeros {
-    fn new() -> Zeros {
-        // SAFETY: no memory that is in use is asked for.
-        let start = unsafe {
-            mmap(
-                std::ptr::null_mut(),
-                LENGTH,
-                READ,
-                PRIVATE_AND_ANONYMOUS | NO_RESERVE,
-                -1,
-                0,
-            )
-        };
-        assert_ne!(start as isize, -1, "no address space");
-        Zeros(start.cast())
-    }
-
-    fn bytes(&self) -> &[u8] {
-        // SAFETY: the pages are mapped, and nobody writes them.
-        unsafe { std::slice::from_raw_parts(self.0, LENGTH) }
-    }
-
-    fn space(&mut self) -> &mut [u8] {
-        // SAFETY: the pages are mapped, and borrowed by nobody else. No share is written, so there is no store.
-        unsafe { std::slice::from_raw_parts_mut(self.0, LENGTH) }
-    }
-}
-
-impl Drop for Zeros {
-    fn drop(&mut self) {
-        // SAFETY: nothing borrows the pages any longer.
-        unsafe { munmap(self.0.cast(), LENGTH) };
-    }
-}
-
 /// The outcomes of shares whose parts have these lengths, of N = 2, k = 1 and with the last sequence number: where all
 /// offsets fit it is 29, and nothing is written.
 fn outcomes<const CASES: usize>(lengths: [[usize; 6]; CASES]) -> [u32; CASES] {
-    let (zeros, mut space) = (Zeros::new(), Zeros::new());
+    // Neither can be written, and no share is.
+    let [zeros, mut space] = [0; 2].map(|_| Memory::new(LENGTH, Access::Read));
     lengths.map(|lengths| {
         // The parts may overlap: each begins with the first byte.
         let parts = lengths.map(|length| &zeros.bytes()[..length]);
@@ -92,9 +37,9 @@ fn outcomes<const CASES: usize>(lengths: [[usize; 6]; CASES]) -> [u32; CASES] {
             share_data: parts[4],
             encrypted_private_key: parts[5],
         };
-        let written = ffi::write_share(&share, space.space());
-        let by_model = model::write_share(&modelled(&share), space.space());
-        let by_fast = model::fast::write_share(&modelled(&share), space.space());
+        let written = ffi::write_share(&share, space.bytes_mut());
+        let by_model = model::write_share(&modelled(&share), space.bytes_mut());
+        let by_fast = model::fast::write_share(&modelled(&share), space.bytes_mut());
         assert_eq!(by_model, by_fast);
         assert_eq!(
             (written.number, written.length),

@@ -1,39 +1,21 @@
 //! What a test-and-write does not name it does not even store to: the pages without its bytes are
 //! read-only here while the library works, and a store to one would end the test with a signal.
 #![cfg(target_os = "linux")]
-#![allow(unsafe_code)]
+
+mod common;
 
 use beamsatchel_node::ffi;
-use std::ffi::{c_int, c_long, c_void};
+use common::memory::{page_size, Access, Memory};
+use common::raw::{add, write_at, ENABLER, NODE};
 
-const NODE: [u8; 20] = [7; 20];
-const ENABLER: [u8; 32] = [0xEE; 32];
 /// A container of many pages, whose data one request can fill.
 const LENGTH: usize = 65_536;
 /// Where a container's data begins.
 const DATA: usize = 468;
 
-extern "C" {
-    fn getpagesize() -> c_int;
-    fn mmap(
-        at: *mut c_void,
-        length: usize,
-        access: c_int,
-        flags: c_int,
-        file: c_int,
-        offset: c_long,
-    ) -> *mut c_void;
-    fn mprotect(at: *mut c_void, length: usize, access: c_int) -> c_int;
-    fn munmap(at: *mut c_void, length: usize) -> c_int;
-}
-
-const READ: c_int = 1;
-const READ_AND_WRITE: c_int = 3;
-const PRIVATE_AND_ANONYMOUS: c_int = 0x22;
-
 /// A container in pages of its own, one more than it fills.
 struct Pages {
-    start: *mut u8,
+    memory: Memory,
     page: usize,
     /// How many bytes stand before the container.
     before: usize,
@@ -42,22 +24,9 @@ struct Pages {
 impl Pages {
     /// A container in whose first pages a place of it begins a page.
     fn with_page_at(place: usize) -> Pages {
-        // SAFETY: this asks for a number only.
-        let page = unsafe { getpagesize() } as usize;
-        // SAFETY: no memory that is in use is asked for.
-        let start = unsafe {
-            mmap(
-                std::ptr::null_mut(),
-                LENGTH + page,
-                READ_AND_WRITE,
-                PRIVATE_AND_ANONYMOUS,
-                -1,
-                0,
-            )
-        };
-        assert_ne!(start as isize, -1, "no memory");
+        let page = page_size();
         let mut slot = Pages {
-            start: start.cast(),
+            memory: Memory::new(LENGTH + page, Access::ReadAndWrite),
             page,
             before: (page - place) % page,
         };
@@ -71,12 +40,9 @@ impl Pages {
     fn with_data_up_to(before_the_end: usize) -> Pages {
         let mut slot = Pages::with_page_at(0);
         let size = (slot.count() - before_the_end) * slot.page - DATA;
-        slot.done(&write(0, &vec![b'A'; size], None));
+        slot.done(&write_at(0, &vec![b'A'; size], None));
         for lease in 1..=6 {
-            let mut add = vec![2, 0, 0, 0, lease, 0, 0, 0, 7];
-            add.extend([lease; 64]);
-            add.extend(NODE);
-            slot.done(&add);
+            slot.done(&add(lease));
         }
         assert_eq!(slot.size(), size);
         slot
@@ -87,8 +53,7 @@ impl Pages {
     }
 
     fn bytes(&mut self) -> &mut [u8] {
-        // SAFETY: the pages are mapped, and borrowed by nobody else.
-        unsafe { std::slice::from_raw_parts_mut(self.start.add(self.before), LENGTH) }
+        &mut self.memory.bytes_mut()[self.before..][..LENGTH]
     }
 
     fn size(&mut self) -> usize {
@@ -102,42 +67,20 @@ impl Pages {
 
     /// Applies requests in turn while all pages but these are read-only.
     fn done_on(&mut self, pages: &[usize], requests: &[Vec<u8>]) {
-        self.protect(pages, READ);
+        self.protect(pages, Access::Read);
         for request in requests {
             self.done(request);
         }
-        self.protect(pages, READ_AND_WRITE);
+        self.protect(pages, Access::ReadAndWrite);
     }
 
     /// Sets the access of all pages but these.
-    fn protect(&mut self, pages: &[usize], access: c_int) {
+    fn protect(&mut self, pages: &[usize], access: Access) {
         for page in (0..=self.count()).filter(|page| !pages.contains(page)) {
-            // SAFETY: this is a page of those that are mapped here, and nothing borrows it.
-            let failed = unsafe {
-                let start = self.start.add(page * self.page);
-                mprotect(start.cast(), self.page, access)
-            };
-            assert_eq!(failed, 0);
+            let start = page * self.page;
+            self.memory.set_access(start..start + self.page, access);
         }
     }
-}
-
-impl Drop for Pages {
-    fn drop(&mut self) {
-        // SAFETY: nothing borrows the pages any longer.
-        unsafe { munmap(self.start.cast(), LENGTH + self.page) };
-    }
-}
-
-/// A kind 1 request with one write.
-fn write(offset: usize, data: &[u8], cut: Option<usize>) -> Vec<u8> {
-    let mut request = vec![1, 0, 1, u8::from(cut.is_some())];
-    request.extend((cut.unwrap_or(0) as u32).to_be_bytes());
-    request.extend(ENABLER);
-    request.extend((offset as u32).to_be_bytes());
-    request.extend((data.len() as u32).to_be_bytes());
-    request.extend(data);
-    request
 }
 
 #[test]
@@ -147,11 +90,11 @@ fn at_the_end_of_long_data_only_the_first_and_the_last_page_are_stored_to() {
     slot.done_on(
         &[0, last],
         &[
-            write(size, &[b'B'; 64], None),
-            write(size + 32, &[b'C'; 64], None),
-            write(size + 200, b"D", None),
-            write(size + 16, &[b'E'; 500], Some(size + 20)),
-            write(0, b"", Some(size)),
+            write_at(size, &[b'B'; 64], None),
+            write_at(size + 32, &[b'C'; 64], None),
+            write_at(size + 200, b"D", None),
+            write_at(size + 16, &[b'E'; 500], Some(size + 20)),
+            write_at(0, b"", Some(size)),
         ],
     );
 }
@@ -160,12 +103,12 @@ fn at_the_end_of_long_data_only_the_first_and_the_last_page_are_stored_to() {
 fn a_write_inside_the_data_stores_to_its_own_bytes_alone() {
     let mut slot = Pages::with_data_up_to(2);
     let (size, last_of_data) = (slot.size(), slot.count() - 3);
-    slot.done_on(&[0], &[write(0, b"F", None)]);
+    slot.done_on(&[0], &[write_at(0, b"F", None)]);
     slot.done_on(
         &[last_of_data],
         &[
-            write(size - 64, &[b'G'; 64], None),
-            write(size - 1, b"HI", Some(size)),
+            write_at(size - 64, &[b'G'; 64], None),
+            write_at(size - 1, b"HI", Some(size)),
         ],
     );
 }
@@ -177,8 +120,8 @@ fn growth_does_not_store_behind_the_higher_used_end() {
     slot.done_on(
         &[0, behind],
         &[
-            write(size, &[b'J'; 64], None),
-            write(size + 300, b"K", None),
+            write_at(size, &[b'J'; 64], None),
+            write_at(size + 300, b"K", None),
         ],
     );
 }
@@ -191,12 +134,12 @@ fn a_cut_stores_to_the_size_field_and_to_what_it_frees() {
     slot.done_on(
         &[0, behind - 1],
         &[
-            write(0, b"", Some(size - 10)),
-            write(size - 30, &[b'L'; 100], Some(size - 20)),
+            write_at(0, b"", Some(size - 10)),
+            write_at(size - 30, &[b'L'; 100], Some(size - 20)),
         ],
     );
     let before: Vec<usize> = (0..behind).collect();
-    slot.done_on(&before, &[write(0, b"", Some(0))]);
+    slot.done_on(&before, &[write_at(0, b"", Some(0))]);
 }
 
 /// The slack goes from the first page up to the last one, in which count and leases stand.
@@ -204,17 +147,17 @@ fn a_cut_stores_to_the_size_field_and_to_what_it_frees() {
 fn growth_inside_the_slack_stores_to_the_size_field_and_to_its_own_bytes() {
     let mut slot = Pages::with_data_up_to(1);
     let (size, last_of_slack) = (slot.size(), slot.count() - 2);
-    slot.done(&write(0, b"", Some(100)));
+    slot.done(&write_at(0, b"", Some(100)));
     slot.done_on(
         &[0],
-        &[write(100, &[b'M'; 64], None), write(200, b"N", None)],
+        &[write_at(100, &[b'M'; 64], None), write_at(200, b"N", None)],
     );
     // A gap of whole pages is zero as it is. The last write ends where the slack does.
     slot.done_on(
         &[0, last_of_slack],
         &[
-            write(size - 500, &[b'O'; 64], None),
-            write(size - 1, b"P", None),
+            write_at(size - 500, &[b'O'; 64], None),
+            write_at(size - 1, b"P", None),
         ],
     );
     assert_eq!(slot.size(), size);
@@ -224,16 +167,19 @@ fn growth_inside_the_slack_stores_to_the_size_field_and_to_its_own_bytes() {
 fn beside_slack_a_write_inside_the_data_stores_to_its_own_bytes_alone() {
     let mut slot = Pages::with_data_up_to(1);
     let (size, last_of_data) = (slot.size(), slot.count() - 2);
-    slot.done(&write(0, b"", Some(size - 10)));
+    slot.done(&write_at(0, b"", Some(size - 10)));
     slot.done_on(
         &[last_of_data],
         &[
-            write(size - 64, &[b'Q'; 54], None),
+            write_at(size - 64, &[b'Q'; 54], None),
             // A size that there is only on the way reaches past the slack.
-            write(size - 64, &[b'R'; 100], Some(size - 10)),
+            write_at(size - 64, &[b'R'; 100], Some(size - 10)),
         ],
     );
-    slot.done_on(&[], &[write(0, b"", Some(size)), write(size, b"", None)]);
+    slot.done_on(
+        &[],
+        &[write_at(0, b"", Some(size)), write_at(size, b"", None)],
+    );
 }
 
 /// The offset field begins a page, in which no byte is named where the count stays.
@@ -241,15 +187,15 @@ fn beside_slack_a_write_inside_the_data_stores_to_its_own_bytes_alone() {
 fn where_the_count_stays_the_offset_field_is_not_stored_to() {
     let mut slot = Pages::with_page_at(92);
     let size = 3 * slot.page;
-    slot.done(&write(0, &vec![b'S'; size], None));
+    slot.done(&write_at(0, &vec![b'S'; size], None));
     let last_of_data = 4;
     slot.done_on(
         &[0, last_of_data],
         &[
-            write(0, b"", Some(size - 10)),
-            write(size - 10, &[b'T'; 5], None),
-            write(size - 7, &[b'U'; 7], None),
-            write(size - 20, &[b'V'; 9], Some(size - 12)),
+            write_at(0, b"", Some(size - 10)),
+            write_at(size - 10, &[b'T'; 5], None),
+            write_at(size - 7, &[b'U'; 7], None),
+            write_at(size - 20, &[b'V'; 9], Some(size - 12)),
         ],
     );
 }

@@ -3,6 +3,10 @@
 
 #![allow(dead_code)] // Each test uses some of it.
 
+#[cfg(target_os = "linux")]
+pub mod memory;
+pub mod raw;
+
 use beamsatchel_model as model;
 use beamsatchel_node::ffi::{self, ShareArguments};
 use beamsatchel_node::{

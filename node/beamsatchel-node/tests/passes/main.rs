@@ -3,6 +3,9 @@
 //! that is handed out; a tested piece is looked at once more, as far as the specimen goes.
 
 #[cfg(all(target_os = "linux", target_pointer_width = "64"))]
+#[path = "../common/mod.rs"]
+mod common;
+#[cfg(all(target_os = "linux", target_pointer_width = "64"))]
 mod pages;
 #[cfg(all(target_os = "linux", target_pointer_width = "64"))]
 mod rows;

@@ -4,9 +4,11 @@
 
 #![allow(unsafe_code)]
 
-use std::ffi::{c_int, c_long, c_void};
+use crate::common::memory::{page_size, Access, Memory};
+use std::ffi::{c_int, c_void};
 use std::ops::Range;
 use std::sync::atomic::{AtomicU32, AtomicUsize, Ordering::Relaxed};
+use std::sync::OnceLock;
 
 /// The most bytes of a container's buffer.
 pub const LENGTH: usize = 16_777_216;
@@ -16,23 +18,9 @@ const OPEN: usize = 4;
 const PAGES: usize = LENGTH / 4096;
 
 extern "C" {
-    fn getpagesize() -> c_int;
-    fn mmap(
-        at: *mut c_void,
-        length: usize,
-        access: c_int,
-        flags: c_int,
-        file: c_int,
-        offset: c_long,
-    ) -> *mut c_void;
-    fn mprotect(at: *mut c_void, length: usize, access: c_int) -> c_int;
     fn sigaction(signal: c_int, action: *const Action, before: *mut Action) -> c_int;
 }
 
-const CLOSED: c_int = 0;
-const READ: c_int = 1;
-const READ_AND_WRITE: c_int = 3;
-const PRIVATE_AND_ANONYMOUS: c_int = 0x22;
 /// The signal that a use of a closed page raises.
 const SEGV: c_int = 11;
 /// The handler is told the place.
@@ -54,38 +42,38 @@ struct Told {
     place: usize,
 }
 
-/// Where the buffer begins, and how long its pages are.
-static START: AtomicUsize = AtomicUsize::new(0);
-static PAGE: AtomicUsize = AtomicUsize::new(0);
+/// The buffer, and how long its pages are.
+static BUFFER: OnceLock<(Memory, usize)> = OnceLock::new();
 /// The pages that are open, the one that was opened last at the front; `PAGES` where there is none.
 static OPENED: [AtomicUsize; OPEN] = [const { AtomicUsize::new(PAGES) }; OPEN];
 /// How often each page was opened, and how often for a store.
 static VISITS: [AtomicU32; PAGES] = [const { AtomicU32::new(0) }; PAGES];
 static STORES: [AtomicU32; PAGES] = [const { AtomicU32::new(0) }; PAGES];
 
-fn set_access(page: usize, count: usize, access: c_int) {
-    let length = PAGE.load(Relaxed);
-    let start = START.load(Relaxed) + page * length;
-    // SAFETY: these are pages of the buffer, which is never unmapped.
-    let failed = unsafe { mprotect(start as *mut c_void, count * length, access) };
-    assert_eq!(failed, 0);
+/// Sets what may be done to so many pages.
+fn set_access(page: usize, count: usize, access: Access) {
+    let (memory, length) = BUFFER.get().expect("it is watched");
+    memory.set_access(page * length..(page + count) * length, access);
+}
+
+/// The page of a place in the buffer.
+fn page_of(place: usize) -> Option<usize> {
+    let (memory, length) = BUFFER.get()?;
+    let inside = place.checked_sub(memory.start())?;
+    (inside < LENGTH).then_some(inside / length)
 }
 
 /// Opens the page of a place that was used while it was closed, or closed to stores.
 extern "C" fn open(_: c_int, told: *const Told, _: *const c_void) {
     // SAFETY: the system says by this where the use was.
     let place = unsafe { (*told).place };
-    let Some(page) = place
-        .checked_sub(START.load(Relaxed))
-        .filter(|inside| *inside < LENGTH)
-        .map(|inside| inside / PAGE.load(Relaxed))
-    else {
-        // No page of the buffer: the use was wrong, and ends the program.
+    let Some(page) = page_of(place) else {
+        // The use was wrong, and ends the program.
         std::process::abort();
     };
     if OPENED.iter().any(|opened| opened.load(Relaxed) == page) {
         STORES[page].fetch_add(1, Relaxed);
-        set_access(page, 1, READ_AND_WRITE);
+        set_access(page, 1, Access::ReadAndWrite);
         return;
     }
     VISITS[page].fetch_add(1, Relaxed);
@@ -94,9 +82,9 @@ extern "C" fn open(_: c_int, told: *const Told, _: *const c_void) {
         entering = opened.swap(entering, Relaxed);
     }
     if entering < PAGES {
-        set_access(entering, 1, CLOSED);
+        set_access(entering, 1, Access::Nothing);
     }
-    set_access(page, 1, READ);
+    set_access(page, 1, Access::Read);
 }
 
 /// The visits to one page.
@@ -114,27 +102,13 @@ pub struct Pages {
 
 impl Pages {
     pub fn new() -> Pages {
-        assert_eq!(START.load(Relaxed), 0, "there is one buffer");
-        // SAFETY: this asks for a number only.
-        let page = unsafe { getpagesize() } as usize;
+        let page = page_size();
         assert!(
             LENGTH / page <= PAGES,
             "pages of {page} bytes are too short"
         );
-        // SAFETY: no memory that is in use is asked for.
-        let start = unsafe {
-            mmap(
-                std::ptr::null_mut(),
-                LENGTH,
-                READ_AND_WRITE,
-                PRIVATE_AND_ANONYMOUS,
-                -1,
-                0,
-            )
-        };
-        assert_ne!(start as isize, -1, "no memory");
-        START.store(start as usize, Relaxed);
-        PAGE.store(page, Relaxed);
+        let memory = Memory::new(LENGTH, Access::ReadAndWrite);
+        assert!(BUFFER.set((memory, page)).is_ok(), "there is one buffer");
         let action = Action {
             handler: open as *const () as usize,
             blocked: [0; 16],
@@ -148,8 +122,9 @@ impl Pages {
     }
 
     pub fn bytes(&mut self) -> &mut [u8] {
+        let (memory, _) = BUFFER.get().expect("it is made");
         // SAFETY: the buffer is mapped and never unmapped, and this is the only way to it.
-        unsafe { std::slice::from_raw_parts_mut(START.load(Relaxed) as *mut u8, LENGTH) }
+        unsafe { std::slice::from_raw_parts_mut(memory.start() as *mut u8, LENGTH) }
     }
 
     pub fn count(&self) -> usize {
@@ -172,9 +147,9 @@ impl Pages {
         OPENED
             .iter()
             .for_each(|opened| opened.store(PAGES, Relaxed));
-        set_access(0, count, CLOSED);
+        set_access(0, count, Access::Nothing);
         let given = used(self.bytes());
-        set_access(0, count, READ_AND_WRITE);
+        set_access(0, count, Access::ReadAndWrite);
         let visits = (0..count).map(|page| Visits {
             all: VISITS[page].load(Relaxed),
             storing: STORES[page].load(Relaxed),

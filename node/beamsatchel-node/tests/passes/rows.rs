@@ -1,11 +1,10 @@
 //! The requests, what they ask for in which container, and how often each page may be visited for them.
 
+use crate::common::raw::{add, cancel, reads, write_at, ENABLER, NODE};
 use crate::pages::{Pages, Visits, LENGTH};
 use beamsatchel_node::ffi;
 use std::ops::Range;
 
-const NODE: [u8; 20] = [7; 20];
-const ENABLER: [u8; 32] = [0xEE; 32];
 /// Where a container's data begins.
 const DATA: usize = 468;
 /// Count and two extra leases.
@@ -78,7 +77,7 @@ fn done(name: &'static str, holding: Holding, request: Vec<u8>, parts: Vec<Part>
 
 fn rows() -> Vec<Row> {
     use Holding::{Little, Much, Nothing, Slack, Spoiled};
-    let far = || write(MOST - 1, b"Z", None);
+    let far = || write_at(MOST - 1, b"Z", None);
     let half = DATA + MOST / 2;
     let mut other_enabler = far();
     other_enabler[8] ^= 1;
@@ -103,13 +102,13 @@ fn rows() -> Vec<Row> {
         done(
             "read a little, with little data",
             Little,
-            read(0, 5),
+            reads(&[(0, 5)]),
             tail(),
         ),
         done(
             "write a little, with little data",
             Little,
-            write(0, b"A", None),
+            write_at(0, b"A", None),
             tail(),
         ),
         done(
@@ -129,26 +128,31 @@ fn rows() -> Vec<Row> {
         done(
             "write 64 bytes at the end of much data",
             Much,
-            write(MOST - 64, &[b'B'; 64], None),
+            write_at(MOST - 64, &[b'B'; 64], None),
             vec![part(DATA..DATA + MOST - 64, 0, 0)],
         ),
         done(
             "cut all of much data",
             Much,
-            write(0, b"", Some(0)),
+            write_at(0, b"", Some(0)),
             data(1, 1),
         ),
         done(
             "cut half of much data, with a write of 60,000 bytes before",
             Much,
-            write(MOST / 2 - 60_000, &[b'C'; 60_000], Some(MOST / 2)),
+            write_at(MOST / 2 - 60_000, &[b'C'; 60_000], Some(MOST / 2)),
             vec![
                 part(DATA..half - 60_000, 0, 0),
                 part(half - 60_000..half, 1, 1),
                 part(half..DATA + MOST, 1, 1),
             ],
         ),
-        done("read all of much data", Much, read(0, MOST), data(1, 0)),
+        done(
+            "read all of much data",
+            Much,
+            reads(&[(0, MOST as u32)]),
+            data(1, 0),
+        ),
         done(
             "test all of much data, against a specimen of 60,000 bytes",
             Much,
@@ -178,7 +182,7 @@ fn rows() -> Vec<Row> {
             ..done(
                 "a far write a byte too far",
                 Little,
-                write(MOST, b"Z", None),
+                write_at(MOST, b"Z", None),
                 tail(),
             )
         },
@@ -197,7 +201,7 @@ fn rows() -> Vec<Row> {
             ..done(
                 "a read of more than the reply space holds",
                 Much,
-                [&[5, 2, 0, 0][..], &[&read(0, MOST)[4..]; 2].concat()].concat(),
+                reads(&[(0, MOST as u32); 2]),
                 data(0, 0),
             )
         },
@@ -259,7 +263,7 @@ fn fill(bytes: &mut [u8], holding: Holding) {
     let apply = |bytes: &mut [u8], request: &[u8]| {
         assert_eq!(ffi::apply(bytes, request, &mut []).number, 0);
     };
-    apply(bytes, &write(0, b"12345", None));
+    apply(bytes, &write_at(0, b"12345", None));
     for lease in 1..=6 {
         apply(bytes, &add(lease));
     }
@@ -267,25 +271,14 @@ fn fill(bytes: &mut [u8], holding: Holding) {
         Holding::Nothing | Holding::Little => {}
         Holding::Spoiled => bytes[LENGTH - 1] = 1,
         Holding::Much => {
-            apply(bytes, &write(MOST - 1, b"Z", None));
+            apply(bytes, &write_at(MOST - 1, b"Z", None));
             bytes[DATA..DATA + MOST].fill(b'D');
         }
         Holding::Slack => {
-            apply(bytes, &write(MOST - 1, b"Z", None));
-            apply(bytes, &write(0, b"", Some(0)));
+            apply(bytes, &write_at(MOST - 1, b"Z", None));
+            apply(bytes, &write_at(0, b"", Some(0)));
         }
     }
-}
-
-/// A kind 1 request with one write.
-fn write(offset: usize, data: &[u8], cut: Option<usize>) -> Vec<u8> {
-    let mut request = vec![1, 0, 1, u8::from(cut.is_some())];
-    request.extend((cut.unwrap_or(0) as u32).to_be_bytes());
-    request.extend(ENABLER);
-    request.extend((offset as u32).to_be_bytes());
-    request.extend((data.len() as u32).to_be_bytes());
-    request.extend(data);
-    request
 }
 
 /// A kind 1 request with one test, by gt, of so many bytes from 0.
@@ -300,25 +293,7 @@ fn test(length: usize, specimen: &[u8]) -> Vec<u8> {
     request
 }
 
-fn read(offset: usize, length: usize) -> Vec<u8> {
-    let mut request = vec![5, 1, 0, 0];
-    request.extend((offset as u32).to_be_bytes());
-    request.extend((length as u32).to_be_bytes());
-    request
-}
-
-fn add(owner: u8) -> Vec<u8> {
-    let mut request = vec![2, 0, 0, 0, owner, 0, 0, 0, 7];
-    request.extend([owner; 64]);
-    request.extend(NODE);
-    request
-}
-
 /// The last lease, with a later expiry.
 fn renew() -> Vec<u8> {
     [&[3][..], &[6; 32], &[0, 0, 0, 9]].concat()
-}
-
-fn cancel(owner: u8) -> Vec<u8> {
-    [&[4][..], &[owner; 32]].concat()
 }
