@@ -18,8 +18,8 @@ use Rattle.format.specs.Layout.{dataAt, extraLimit, recordSize, sizeWidt
 use Rattle.format.specs.Layout.{countSize, usedLength, extrasAt, usedEnd, dataEnd, slackOf}
 use Rattle.format.specs.Container.{lengthAllowed, held, recordOk, lastHeld, fieldsOk, contentsOk, wellFormed}
 use Rattle.format.specs.Judging.{fieldsFound, Framed, Judges, Known, frameOf}
-use Rattle.octets.proofs.ListLaws.{both, and-assoc}
-use Rattle.format.proofs.WellFormed.{fields-facts, formed-facts, used-is, lastHeld-records, every-append}
+use Rattle.octets.proofs.ListLaws.{both, and-assoc, every-append}
+use Rattle.format.proofs.WellFormed.{fields-facts, formed-facts, used-is, lastHeld-records}
 use Rattle.format.proofs.WellFormed.{Fields}
 use Rattle.format.proofs.RoundTrip.{extra-leases}
 use Rattle.octets.specs.Lists.{every}
@@ -118,7 +118,7 @@ extras-read c o e p r = rw p (sym r)
 leases-ok : (c : List ℕ) → every recordOk (leasesOf c) ≡ (every recordOk (records fixedPlaces leasesAt c)
     && every recordOk (records (extrasOf c) (extrasAt (countAt c)) c))
 unfolding leasesOf
-leases-ok c = every-append (records fixedPlaces leasesAt c) (records (extrasOf c) (extrasAt (countAt c)) c)
+leases-ok c = every-append recordOk (records fixedPlaces leasesAt c) (records (extrasOf c) (extrasAt (countAt c)) c)
 
 pub contents-read : (c : List ℕ) (f : Frame) → Framed c f
     → contentsOk c

@@ -15,7 +15,7 @@ use Rattle.format.specs.Layout.{nodeAt, extraLimit, extrasAt, countSize,
 use Rattle.format.specs.Container.{lengthAllowed, held, recordOk, lastHeld, fieldsOk, contentsOk, wellFormed}
 use Rattle.octets.specs.Lists.{every}
 use Rattle.octets.specs.Facts.{Each}
-use Rattle.octets.proofs.ListLaws.{both, by-refuting, and-assoc}
+use Rattle.octets.proofs.ListLaws.{both, by-refuting}
 
 -- ---- the fields
 pub record Fields (c : List ℕ) : Type 0 where
@@ -159,12 +159,6 @@ lastHeld-records zero p c =
 lastHeld-records (suc n) p c =
     let k : p + recordSize + recordSize * n ≡ p + recordSize * suc n = omega arith in
     lastHeld-records n (p + recordSize) c ∙ rw k
-
-pub every-append : (a b : List (List ℕ)) → every recordOk (a ++ b) ≡ (every recordOk a && every recordOk b)
-unfolding every
-every-append [] b = refl
-every-append (r ∷ a) b = ap (λ (t : Bool). recordOk r && t) (every-append a b)
-    ∙ sym (and-assoc (recordOk r) (every recordOk a) (every recordOk b))
 
 pub length-leases : (c : List ℕ) → length (leasesOf c) ≡ fixedPlaces + extrasOf c
 unfolding leasesOf

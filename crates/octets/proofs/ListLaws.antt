@@ -1,7 +1,7 @@
 -- Tests in a row, tests over lists, what holds of each element, parts and positions. Assumes nothing.
 use mathlib.Core.Path.{_≡_, refl, sym, ap, _∙_}
 use mathlib.Core.Bool.{Bool, true, false, cond, _&&_, false≢true, true≢false}
-use mathlib.Core.List.{List, [], _∷_, _++_}
+use mathlib.Core.List.{List, [], _∷_, _++_, map}
 use mathlib.Core.Option.{Option, none, some}
 use Prim.Native.Nat.{ℕ, zero, suc, _+_, _-_, _≤_, _<_, min}
 use native.Mathlib.Numerals.{add-one}
@@ -85,6 +85,17 @@ module _ {A : Type 0} (test : A → Bool) where
   unfolding every
   each-every [] e = refl
   each-every (x ∷ xs) e = rw (e .0) (each-every xs (e .1))
+
+  pub every-append : (a b : List A) → every test (a ++ b) ≡ (every test a && every test b)
+  unfolding every
+  every-append [] b = refl
+  every-append (x ∷ a) b =
+      ap (λ (t : Bool). test x && t) (every-append a b) ∙ sym (and-assoc (test x) (every test a) (every test b))
+
+  pub every-map : {B : Type 0} (f : B → A) (xs : List B) → every test (map f xs) ≡ every (λ x. test (f x)) xs
+  unfolding every
+  every-map f [] = refl
+  every-map f (x ∷ xs) = ap (λ (t : Bool). test (f x) && t) (every-map f xs)
 
 -- ---- sums
 pub sum-drop : (ns : List ℕ) (i : ℕ) → i < length ns → sum (drop i ns) ≡ getD ns i 0 + sum (drop (i + 1) ns)
