@@ -157,7 +157,7 @@ fn name(outcome: u32) {
         1 => write(b" 1 bad buffer length"),
         2 => write(b" 2 not well formed"),
         3 => write(b" 3 malformed request or argument"),
-        4 => write(b" 4 negative offset"),
+        4 => write(b" 4 offset before the start"),
         5 => write(b" 5 wrong write enabler"),
         7 => write(b" 7 reply space too short"),
         8 => write(b" 8 test is false"),

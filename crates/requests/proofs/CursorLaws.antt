@@ -1,19 +1,19 @@
 -- What a cursor's methods tell their caller: fields, bounds, and offsets as the code resolves them. Assumes nothing.
-use mathlib.Core.Path.{_≡_, refl, ap, _∙_}
-use mathlib.Core.Bool.{Bool, true, false, true≢false}
+use mathlib.Core.Path.{_≡_, refl, sym, ap, _∙_}
+use mathlib.Core.Bool.{Bool, true, false, cond, true≢false}
 use mathlib.Core.List.{List}
+use mathlib.Core.Option.{none, some}
 use Prim.Native.Nat.{ℕ, suc, _+_, _-_, _^_, _<_, _≤_}
 use native.Mathlib.Omega.{arith}
-use native.Mathlib.Nat.{not-suc-le-zero}
-use lib.Dec.{T, ltb}
-use lib.IntN.{ℤ, pos, negsuc, natAbs}
+use lib.Dec.{T, leb, ltb}
+use lib.IntN.{ℤ, pos, negsuc, natAbs, _-ℤ_}
 use lib.ListN.{length, drop, length-drop}
 use lib.Seq.{length-take-le}
-use lib.Signed.{ltZ, nonNeg}
+use lib.Signed.{leZ, nonNeg}
 use mir.Syntax.{w32, w64}
 use mir.Val.{sel, bits, hbits, toZ, ofZ, Fits, SFits}
 use mir.ValLaws.{toZ-ofZ, toZ-fits}
-use borrow.Author.Tests.{ltb-true}
+use borrow.Author.Tests.{ltb-true, le-ltb, le-leb, lt-leb}
 use Rattle.requests.specs.declared.offsets.Resolved.{Resolved}
 use Rattle.requests.specs.declared.cursors.Cursor.{Cursor}
 use Rattle.requests.specs.declared.cursors.Body.{Body}
@@ -29,35 +29,79 @@ use Rattle.requests.specs.Forms.{BytesIn}
 use Rattle.requests.specs.Cursors.{bodyAt, bodyOf, bytesFrom, entryAt}
 
 -- ---- an offset resolved
-below-is : (z : ℤ) (size : ℕ) → ltZ z (pos 0) ≡ true
-    → _≡_ {A = Resolved} (record { resolves = false; position = 0 }) (resolvedOf z size)
-unfolding resolve isSome orElse resolves position
-below-is (pos n) size e = absurd (not-suc-le-zero (ltb-true n 0 e))
-below-is (negsuc n) size e = refl
-
-above-is : (z : ℤ) (size : ℕ) → ltZ z (pos 0) ≡ false
+above-is : (z : ℤ) (size : ℕ) → leZ (pos 0) z ≡ true
     → _≡_ {A = Resolved} (record { resolves = true; position = natAbs z }) (resolvedOf z size)
 unfolding resolve isSome orElse resolves position
 above-is (pos n) size e = refl
-above-is (negsuc n) size e = absurd (true≢false e)
+above-is (negsuc n) size e = absurd (true≢false (sym e))
 
-above-fits : (z : ℤ) → SFits w32 z → ltZ z (pos 0) ≡ false → T (nonNeg z) × Fits w64 (natAbs z)
+above-fits : (z : ℤ) → SFits w32 z → leZ (pos 0) z ≡ true → T (nonNeg z) × Fits w64 (natAbs z)
 above-fits (pos n) f e = let h : n < 2147483648 = f .sfits in (tt, record { fits = omega arith })
-above-fits (negsuc n) f e = absurd (true≢false e)
+above-fits (negsuc n) f e = absurd (true≢false (sym e))
 
--- The code tests and casts the number that it has stored.
+-- What the code makes of the number that it has stored: -1 less it, stored in its turn.
+abbrev pub backed : ℤ → ℤ
+backed z = negsuc 0 -ℤ toZ w32 (ofZ w32 z)
+
+-- A negative offset, and how far before the end it points.
+pub record Behind (z : ℤ) : Type 0 where
+  pub far : ℕ
+  pub is : z ≡ negsuc far
+  pub fits : SFits w32 (backed z)
+  pub read : toZ w32 (ofZ w32 (backed z)) ≡ pos far
+  pub small : far < 2147483648
+
+-- -1 - z of the negative z = -(k + 1) is k: no sum leaves the width, for the lowest offset too.
+less-is : (k : ℕ) → negsuc 0 -ℤ negsuc k ≡ pos k
+less-is k = let e : suc k - 1 ≡ k = omega arith in rw (le-ltb (suc k) 1 (omega arith), e)
+
+behind-is : (z : ℤ) → SFits w32 z → leZ (pos 0) z ≡ false → Behind z
+behind-is (pos n) f e = absurd (true≢false (sym (le-leb 0 n (omega arith)) ∙ e))
+behind-is (negsuc k) f e =
+    let h : k < 2147483648 = f .sfits in
+    let s : SFits w32 (pos k) = record { sfits = h } in
+    let b : backed (negsuc k) ≡ pos k = rw (toZ-ofZ w32 (negsuc k) f) (less-is k) in
+    record { far = k; is = refl; fits = rw b s; read = rw b (toZ-ofZ w32 (pos k) s); small = h }
+
+back-before : (k size : ℕ) → size < k
+    → _≡_ {A = Resolved} (record { resolves = false; position = 0 }) (resolvedOf (negsuc k) size)
+unfolding resolve isSome orElse resolves position
+back-before k size h = rw (lt-leb k size h)
+
+back-inside : (k size : ℕ) → k ≤ size
+    → _≡_ {A = Resolved} (record { resolves = true; position = size - k }) (resolvedOf (negsuc k) size)
+unfolding resolve isSome orElse resolves position
+back-inside k size h = rw (le-leb k size h)
+
 module _ (z : ℤ) (size : ℕ) (f : SFits w32 z) where
-  pub resolved-below : ltZ (toZ w32 (ofZ w32 z)) (pos 0) ≡ true
-      → _≡_ {A = Resolved} (record { resolves = false; position = 0 }) (resolvedOf z size)
-  resolved-below e = below-is z size (rw (toZ-ofZ w32 z f) at e)
+  -- not negative
+  module _ (e : leZ (pos 0) (toZ w32 (ofZ w32 z)) ≡ true) where
+    pub resolved-fits : T (nonNeg (toZ w32 (ofZ w32 z))) × Fits w64 (natAbs (toZ w32 (ofZ w32 z)))
+    resolved-fits = rw (toZ-ofZ w32 z f) (above-fits z f (rw (toZ-ofZ w32 z f) at e))
 
-  pub resolved-fits : ltZ (toZ w32 (ofZ w32 z)) (pos 0) ≡ false
-      → T (nonNeg (toZ w32 (ofZ w32 z))) × Fits w64 (natAbs (toZ w32 (ofZ w32 z)))
-  resolved-fits e = rw (toZ-ofZ w32 z f) (above-fits z f (rw (toZ-ofZ w32 z f) at e))
+    pub resolved-above :
+        _≡_ {A = Resolved} (record { resolves = true; position = natAbs (toZ w32 (ofZ w32 z)) }) (resolvedOf z size)
+    resolved-above = rw (toZ-ofZ w32 z f) (above-is z size (rw (toZ-ofZ w32 z f) at e))
 
-  pub resolved-above : ltZ (toZ w32 (ofZ w32 z)) (pos 0) ≡ false
-      → _≡_ {A = Resolved} (record { resolves = true; position = natAbs (toZ w32 (ofZ w32 z)) }) (resolvedOf z size)
-  resolved-above e = rw (toZ-ofZ w32 z f) (above-is z size (rw (toZ-ofZ w32 z f) at e))
+  -- negative
+  module _ (e : leZ (pos 0) (toZ w32 (ofZ w32 z)) ≡ false) where
+    pub behind : Behind z
+    behind = behind-is z f (rw (toZ-ofZ w32 z f) at e)
+
+    pub behind-fits : T (nonNeg (toZ w32 (ofZ w32 (backed z)))) × Fits w64 (natAbs (toZ w32 (ofZ w32 (backed z))))
+    behind-fits = rw (behind .read) (tt, record { fits = omega (arith, behind .small) })
+
+    pub resolved-before : size < natAbs (toZ w32 (ofZ w32 (backed z)))
+        → _≡_ {A = Resolved} (record { resolves = false; position = 0 }) (resolvedOf z size)
+    resolved-before h = rw (behind .is) (back-before (behind .far) size (rw (behind .read) at h))
+
+    pub resolved-inside : natAbs (toZ w32 (ofZ w32 (backed z))) ≤ size
+        → _≡_ {A = Resolved} (record { resolves = true; position = size - natAbs (toZ w32 (ofZ w32 (backed z))) })
+        (resolvedOf z size)
+    resolved-inside h =
+        rw (behind .read)
+        (back-inside (behind .far) size (rw (behind .read) at h)
+        ∙ ap (λ (y : ℤ). resolvedOf y size) (sym (behind .is)))
 
 -- ---- how large a number of n bytes is: 2^16 and 2^32 are bounds of their fields, and no limits
 pub specimen-below : (p : ℕ) (q : List ℕ) → Octets q → entrySpecimen p q < 65536
@@ -88,19 +132,23 @@ entry-resolved p q size z r h e g =
     ap (λ (y : ℤ). toZ w32 (ofZ w32 y)) e ∙ toZ-ofZ w32 (entryOffset p q) (offset-fits p q h) in
     g ∙ ap (λ (y : ℤ). resolvedOf y size) k
 
--- ---- how far an offset reaches
-signed-below : (u size : ℕ) → position (signed u) size < 2147483648
+-- ---- how far an offset reaches: no further than the size, or than the largest offset
+position-most : (u size m : ℕ) → size ≤ m → 2147483647 ≤ m → position (signed u) size ≤ m
 unfolding position resolve orElse
-signed-below u size = go (ltb u (2 ^ hbits w32)) refl
+position-most u size m h l = go (ltb u (2 ^ hbits w32)) refl
   where
-    go : (t : Bool) → ltb u (2 ^ hbits w32) ≡ t
-        → orElse (resolve (sel t (pos u) (negsuc (2 ^ bits w32 - suc u))) size) 0 < 2147483648
-    go true e = ltb-true u (2 ^ hbits w32) e
-    go false e = omega arith
+    back : (k : ℕ) (t : Bool) → orElse (cond t (some (size - k)) none) 0 ≤ m
+    back k true = omega arith
+    back k false = omega arith
 
-pub position-below : (p : ℕ) (q : List ℕ) (size : ℕ) → position (entryOffset p q) size < 2147483648
+    go : (t : Bool) → ltb u (2 ^ hbits w32) ≡ t
+        → orElse (resolve (sel t (pos u) (negsuc (2 ^ bits w32 - suc u))) size) 0 ≤ m
+    go true e = omega (arith, ltb-true u (2 ^ hbits w32) e)
+    go false e = back (2 ^ bits w32 - suc u) (leb (2 ^ bits w32 - suc u) size)
+
+pub entry-most : (p : ℕ) (q : List ℕ) (size m : ℕ) → size ≤ m → 2147483647 ≤ m → position (entryOffset p q) size ≤ m
 unfolding entryOffset
-position-below p q size = signed-below (numberAt 4 p q) size
+entry-most p q size m h l = position-most (numberAt 4 p q) size m h l
 
 -- ---- bytes from a cursor on
 pub bytes-length : (q : List ℕ) (k : Cursor) (n : ℕ) → BytesIn q k n → length (bytesFrom k n q) ≡ n

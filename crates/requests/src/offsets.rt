@@ -8,10 +8,19 @@ pub struct Resolved {
     pub position: usize,
 }
 
+// A negative offset counts from the end. -1 - offset is how far before it, and unlike -offset it exists for the lowest
+// offset too.
 pub fn resolve(offset: i32, size: usize) -> Resolved
     ensures { λ r. ⌜ r ≡ resolvedOf offset size ⌝ }
 {
-    if offset < 0 {
+    if 0 <= offset {
+        return Resolved {
+            resolves: true,
+            position: offset as usize,
+        };
+    }
+    let back = (-1 - offset) as usize;
+    if size < back {
         return Resolved {
             resolves: false,
             position: 0,
@@ -19,6 +28,6 @@ pub fn resolve(offset: i32, size: usize) -> Resolved
     }
     Resolved {
         resolves: true,
-        position: offset as usize,
+        position: size - back,
     }
 }

@@ -1,72 +1,36 @@
 -- Demand 2 of the rules: a test-and-write is done exactly when the listed conditions hold, and what it then does.
 -- Assumes nothing.
 use mathlib.Core.Path.{_≡_, refl, sym, ap, _∙_}
-use mathlib.Core.Bool.{true, false≢true}
-use mathlib.Core.List.{List, [], _∷_}
+use mathlib.Core.Bool.{true}
+use mathlib.Core.List.{List}
 use mathlib.Core.Option.{Option, some}
 use Prim.Native.Nat.{ℕ, _≤_}
 use native.Mathlib.Omega.{arith}
 use lib.ListN.{length}
-use lib.IntN.{ℤ, pos, negsuc}
 use borrow.Author.Tests.{not-false, ltb-false, le-ltb}
 use Rattle.octets.specs.Strings.{same}
 use Rattle.octets.proofs.StringLaws.{same-eq, same-refl}
 use Rattle.format.specs.Container.{wellFormed}
 use Rattle.format.specs.Layout.{enablerOf, dataOf, countAt, movedCount}
 use Rattle.format.specs.Parts.{Parts, countIn, used, partsOf, encode}
-use Rattle.octets.specs.Lists.{isSome, every, maybe}
-use Rattle.octets.specs.Facts.{Each}
-use Rattle.octets.proofs.ListLaws.{both, each-map, every-each, each-every}
+use Rattle.octets.specs.Lists.{every, maybe}
+use Rattle.octets.proofs.ListLaws.{both, every-each, each-every}
 use Rattle.format.proofs.RoundTrip.{parts-count, parts-encode, count-encode}
 use Rattle.rules.specs.Requests.{Test, Write, testWrite, kindOf, byKind, testWriteOk, testWriteOf, requestOf}
-use Rattle.rules.specs.Testing.{resolve, resolves, holds}
+use Rattle.rules.specs.Testing.{resolves, holds}
 use Rattle.rules.specs.Writing.{writesResolve, rewritten}
 use Rattle.rules.specs.Outcomes.{withBytes, after, afterOf, rows, roomRows, requestRows, replyTo}
 use Rattle.rules.specs.Outcomes.{outcome, containerAfter, admitRows, findRows}
 use Rattle.octets.specs.Rows.{firstRow}
-use Rattle.rules.specs.Claims.{NotNegative, Accepts, Writes, Demand2}
+use Rattle.rules.specs.Claims.{Accepts, Writes, Demand2}
 use Rattle.octets.proofs.RowLaws.{clear}
+use Rattle.rules.proofs.OffsetLaws.{all-named, named-all, writes-named, named-writes}
 use Rattle.rules.proofs.RequestLaws.{of-kind}
 use Rattle.rules.proofs.Kept.{count-with, used-rewritten}
 use Rattle.rules.proofs.NumberLaws.{done-unbroken}
 use Rattle.rules.proofs.OutcomeLaws.{outcome-formed, answered-number}
 use Rattle.rules.proofs.ReplyLaws.{done-replies}
 use Rattle.rules.proofs.Demand1.{replied-formed, done-valid, done-container, tests-reply}
-
--- an offset resolves exactly when it is not negative
-pub resolves-not : (o : ℤ) (n : ℕ) → resolves o n ≡ true → NotNegative o
-unfolding resolves resolve isSome
-resolves-not (pos k) n e = tt
-resolves-not (negsuc k) n e = absurd (false≢true e)
-
-pub not-resolves : (o : ℤ) (n : ℕ) → NotNegative o → resolves o n ≡ true
-unfolding resolves resolve isSome
-not-resolves (pos k) n e = refl
-not-resolves (negsuc k) n e = absurd e
-
--- the same of all the offsets of a list
-module _ {A : Type 0} (at : A → ℤ) (xs : List A) (n : ℕ) where
-  pub offsets-not : every (λ x. resolves (at x) n) xs ≡ true → Each (λ x. NotNegative (at x)) xs
-  offsets-not e =
-      each-map (λ x. resolves (at x) n ≡ true) (λ x. NotNegative (at x)) (λ x. resolves-not (at x) n) xs
-      (every-each (λ x. resolves (at x) n) xs e)
-
-  pub not-offsets : Each (λ x. NotNegative (at x)) xs → every (λ x. resolves (at x) n) xs ≡ true
-  not-offsets e =
-      each-every (λ x. resolves (at x) n) xs
-      (each-map (λ x. NotNegative (at x)) (λ x. resolves (at x) n ≡ true) (λ x. not-resolves (at x) n) xs e)
-
-pub writes-not : (ws : List Write) (n : ℕ) → writesResolve ws n ≡ true → Each (λ w. NotNegative (w .offset)) ws
-unfolding writesResolve
-writes-not [] n e = tt
-writes-not (w ∷ ws) n e =
-    let b = both (resolves (w .offset) n) _ e in
-    (resolves-not (w .offset) n (b .0), writes-not ws _ (b .1))
-
-pub not-writes : (ws : List Write) (n : ℕ) → Each (λ w. NotNegative (w .offset)) ws → writesResolve ws n ≡ true
-unfolding writesResolve
-not-writes [] n e = refl
-not-writes (w ∷ ws) n e = rw (not-resolves (w .offset) n (e .0)) (not-writes ws _ (e .1))
 
 -- ---- from the outcome to the conditions
 module _ (c q : List ℕ) (n : ℕ) (w : wellFormed c ≡ true) (k : List ℕ) (ts : List Test) (ws : List Write)
@@ -90,8 +54,8 @@ module _ (c q : List ℕ) (n : ℕ) (w : wellFormed c ≡ true) (k : List ℕ) (
         cut = cut;
         formed = w;
         format = f;
-        test-offsets = offsets-not (λ (t : Test). t .offset) ts s (o .0);
-        write-offsets = writes-not ws s (o .1);
+        test-offsets = all-named (λ (t : Test). t .offset) ts s (o .0);
+        write-offsets = writes-named ws s (o .1);
         matches = same-eq k (enablerOf c) (not-false _ (b .0));
         reply-fits = ltb-false _ _ (d .0);
         all-hold = every-each (holds (dataOf c)) ts (not-false _ (g .0));
@@ -105,8 +69,8 @@ unfolding requestRows rows admitRows findRows roomRows replyTo after firstRow pa
 accepts-rows c q n a =
     let s : ℕ = length (dataOf c) in
     let t : every (λ t. resolves (t .offset) s) (a .tests) ≡ true =
-    not-offsets (λ (t : Test). t .offset) (a .tests) s (a .test-offsets) in
-    let w : writesResolve (a .writes) s ≡ true = not-writes (a .writes) s (a .write-offsets) in
+    named-all (λ (t : Test). t .offset) (a .tests) s (a .test-offsets) in
+    let w : writesResolve (a .writes) s ≡ true = named-writes (a .writes) s (a .write-offsets) in
     let e : same (a .enabler) (enablerOf c) ≡ true = rw (a .matches) (same-refl (enablerOf c)) in
     let h : every (holds (dataOf c)) (a .tests) ≡ true = each-every (holds (dataOf c)) (a .tests) (a .all-hold) in
     let u : used (withBytes (partsOf c) (rewritten (a .writes) (a .cut) (dataOf c))) ≤ length c =

@@ -1,4 +1,5 @@
 -- Laws of the rules, and the proofs of what is claimed of them.
+pub mod OffsetLaws
 pub mod WriteLaws
 pub mod ChangeLaws
 pub mod LeaseLaws
@@ -12,6 +13,7 @@ pub mod LongTable
 pub mod EdgeTable
 pub mod Demand1
 pub mod Demand2
+pub mod Offsets
 pub mod ShortReads
 pub mod Stretch
 pub mod Slack

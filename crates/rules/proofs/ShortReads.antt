@@ -9,7 +9,7 @@ use native.Mathlib.Omega.{arith}
 use lib.ListN.{length, take, drop, take-append-drop, length-take, length-drop, drop-of-length-le}
 use lib.Seq.{take-nil, take-all, drop-drop}
 use lib.Dec.{eqb, ltb}
-use lib.IntN.{ℤ, pos}
+use lib.IntN.{ℤ}
 use borrow.Author.Tests.{not-false, ltb-true, ltb-false, lt-ltb, le-ltb}
 use Rattle.octets.specs.Lists.{every, orElse, maybe}
 use Rattle.octets.specs.Facts.{Octets, Each}
@@ -24,13 +24,14 @@ use Rattle.rules.specs.Requests.{Read, read, kindOf, requestOf, byKind, 
 use Rattle.rules.specs.Testing.{resolve, resolves, position, piece, testPiece, readPiece, replyOf}
 use Rattle.rules.specs.Outcomes.{after, afterOf, rows, roomRows, requestRows, replyTo, outcome, containerAfter}
 use Rattle.rules.specs.Outcomes.{admitRows, findRows}
-use Rattle.rules.specs.Claims.{NotNegative, AcceptsRead, ShortReads, ShortPiece}
+use Rattle.rules.specs.Offsets.{NotBefore}
+use Rattle.rules.specs.Claims.{AcceptsRead, ShortReads, ShortPiece}
 use Rattle.rules.proofs.RequestLaws.{of-kind}
 use Rattle.rules.proofs.OutcomeLaws.{outcome-formed, answered-number}
 use Rattle.rules.proofs.ReplyLaws.{done-replies}
 use Rattle.rules.proofs.Demand1.{replied-formed, reads-reply}
 use Rattle.rules.proofs.NumberLaws.{done-unbroken}
-use Rattle.rules.proofs.Demand2.{offsets-not, not-offsets}
+use Rattle.rules.proofs.OffsetLaws.{all-named, named-all}
 
 -- ---- the rows of a read
 -- Whether every offset of the reads resolves on the data of c.
@@ -71,17 +72,17 @@ module _ (c q r : List ℕ) where
         reads = rs;
         formed = w;
         format = f;
-        offsets = offsets-not (λ (x : Read). x .offset) rs (length (dataOf c)) (not-false _ (a .0));
+        offsets = all-named (λ (x : Read). x .offset) rs (length (dataOf c)) (not-false _ (a .0));
         reply-fits = ltb-false _ _ (b .0);
       }
 
   -- with row 4 out of the way, row 7 decides
   sevens : (rs : List Read) → wellFormed c ≡ true → requestOf q ≡ some (read rs) →
-      Each (λ x. NotNegative (x .offset)) rs → outcome c q (length r) ≡ cond (ltb (length r) (replySize c rs)) 7 0
+      Each (λ x. NotBefore (x .offset) (length (dataOf c))) rs → outcome c q (length r) ≡ cond (ltb (length r) (replySize c rs)) 7 0
   unfolding firstRow
   sevens rs w f o =
       read-outcome c q (length r) rs w f
-      ∙ rw (not-offsets (λ (x : Read). x .offset) rs (length (dataOf c)) o)
+      ∙ rw (named-all (λ (x : Read). x .offset) rs (length (dataOf c)) o)
 
   read-done : AcceptsRead c q (length r) → outcome c q (length r) ≡ 0
   read-done a = sevens (a .reads) (a .formed) (a .format) (a .offsets) ∙ rw (le-ltb _ _ (a .reply-fits))
@@ -92,14 +93,14 @@ module _ (c q r : List ℕ) where
   four false b e = refl
 
   fours : (rs : List Read) → wellFormed c ≡ true → requestOf q ≡ some (read rs) →
-      (outcome c q (length r) ≡ 4) ↔ (Each (λ x. NotNegative (x .offset)) rs → ⊥)
+      (outcome c q (length r) ≡ 4) ↔ (Each (λ x. NotBefore (x .offset) (length (dataOf c))) rs → ⊥)
   unfolding firstRow
   fours rs w f =
       let at : Read → ℤ = λ x. x .offset in
       let s : ℕ = length (dataOf c) in
       let o = read-outcome c q (length r) rs w f in (
-        (λ e h. false≢true (sym (four _ (ltb (length r) (replySize c rs)) (sym o ∙ e)) ∙ not-offsets at rs s h)),
-        (λ h. o ∙ rw (by-refuting (allResolve c rs) (λ e. h (offsets-not at rs s e)))),
+        (λ e h. false≢true (sym (four _ (ltb (length r) (replySize c rs)) (sym o ∙ e)) ∙ named-all at rs s h)),
+        (λ h. o ∙ rw (by-refuting (allResolve c rs) (λ e. h (all-named at rs s e)))),
       )
 
   seven : (b : Bool) → _≡_ {A = ℕ} (cond b 7 0) 7 → b ≡ true
@@ -116,7 +117,7 @@ module _ (c q r : List ℕ) where
           reported = reads-reply c q r (a .reads) (a .format) (done-replies _ (read-done a));
           kept = λ o. read-container c q r (a .reads) (a .formed) o (a .format);
         };
-        negative = λ rs w f. let k = fours rs w f in ((λ e. k .0 (sym n ∙ e)), (λ h. n ∙ k .1 h));
+        before-start = λ rs w f. let k = fours rs w f in ((λ e. k .0 (sym n ∙ e)), (λ h. n ∙ k .1 h));
         no-space = λ rs w f o.
             let s = sevens rs w f o in (
               (λ e. ltb-true _ _ (seven _ (sym s ∙ sym n ∙ e))),
@@ -126,9 +127,9 @@ module _ (c q r : List ℕ) where
 
 -- ---- pieces
 module _ (d : List ℕ) (x : Read) where
-  module _ (o : ℕ) (f : x .offset ≡ pos o) where
+  module _ (o : ℕ) (f : resolve (x .offset) (length d) ≡ some o) where
     at : readPiece d x ≡ take (x .count) (drop o d)
-    unfolding readPiece piece position resolve orElse
+    unfolding readPiece piece position orElse
     at = rw f
 
   -- SHORT PIECES

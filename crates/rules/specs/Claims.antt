@@ -8,7 +8,6 @@ use mathlib.Core.Option.{Option, none, some}
 use mathlib.Core.Logic.{_↔_}
 use lib.ListN.{length, take, drop}
 use lib.Dec.{eqb}
-use lib.IntN.{ℤ, pos, negsuc}
 use Rattle.octets.specs.Strings.{same}
 use Rattle.octets.specs.Moves.{put}
 use Rattle.format.specs.Container.{wellFormed}
@@ -17,11 +16,12 @@ use Rattle.format.specs.Layout.{movedCount}
 use Rattle.octets.specs.Facts.{Octets, Each, Among}
 use Rattle.format.specs.Parts.{partsOf}
 use Rattle.rules.specs.Requests.{Test, Read, Write, testWrite, read, requestOf, kindOf, secretAt}
-use Rattle.rules.specs.Testing.{testPiece, readPiece, holds, replyOf}
+use Rattle.rules.specs.Testing.{resolve, testPiece, readPiece, holds, replyOf}
 use Rattle.rules.specs.Writing.{rewritten}
 use Rattle.rules.specs.Leasing.{present}
 use Rattle.rules.specs.Outcomes.{withBytes, noNode, answered, containerAfter, replyAfter, createAnswer}
 use Rattle.rules.specs.Outcomes.{createdContainer}
+use Rattle.rules.specs.Offsets.{NotBefore, WritesNotBefore}
 
 -- The numbers that the table of outcomes has for a request: 1 to 3 for every request, then those of its kind (O22).
 unfoldable pub numbersFor : ℕ → List ℕ
@@ -90,11 +90,6 @@ pub record Demand1Create (c node enabler : List ℕ) : Type 0 where
   -- what is made is well formed
   pub made-formed : createAnswer c node enabler .number ≡ 0 → wellFormed (createdContainer c node enabler) ≡ true
 
--- An offset that is not negative.
-abbrev pub NotNegative : ℤ → Type 0
-NotNegative (pos n) = Unit {0}
-NotNegative (negsuc k) = ⊥
-
 -- Demand 2's conditions, each by itself, for a test-and-write beside a reply space of n bytes (D2).
 pub record Accepts (c q : List ℕ) (n : ℕ) : Type 0 where
   pub enabler : List ℕ
@@ -104,9 +99,9 @@ pub record Accepts (c q : List ℕ) (n : ℕ) : Type 0 where
   -- container and request are well formed
   pub formed : wellFormed c ≡ true
   pub format : requestOf q ≡ some (testWrite enabler tests writes cut)
-  -- no offset is negative
-  pub test-offsets : Each (λ t. NotNegative (t .offset)) tests
-  pub write-offsets : Each (λ w. NotNegative (w .offset)) writes
+  -- no offset reaches before byte 0: a test's on the data as it is, a write's on the size that those before it give
+  pub test-offsets : Each (λ t. NotBefore (t .offset) (length (dataOf c))) tests
+  pub write-offsets : WritesNotBefore writes (length (dataOf c))
   -- the write enabler matches
   pub matches : enabler ≡ enablerOf c
   -- the reply fits
@@ -164,8 +159,8 @@ pub record AcceptsRead (c q : List ℕ) (n : ℕ) : Type 0 where
   -- container and request are well formed
   pub formed : wellFormed c ≡ true
   pub format : requestOf q ≡ some (read reads)
-  -- no offset is negative
-  pub offsets : Each (λ x. NotNegative (x .offset)) reads
+  -- no offset reaches before byte 0
+  pub offsets : Each (λ x. NotBefore (x .offset) (length (dataOf c))) reads
   -- the reply fits, each piece as short as the data leaves it
   pub reply-fits : length (replyOf (map (readPiece (dataOf c)) reads)) ≤ n
 
@@ -182,23 +177,23 @@ pub record ShortReads (c q r : List ℕ) : Type 0 where
   pub exactly : kindOf q ≡ 5 → (answered c q r .number ≡ 0) ↔ AcceptsRead c q (length r)
   -- and then returns what they name
   pub returns : (a : AcceptsRead c q (length r)) → Returns c q r a
-  -- on a good container a good request is refused with 4 exactly when some offset is negative
-  pub negative : (rs : List Read) → wellFormed c ≡ true → requestOf q ≡ some (read rs) →
-      (answered c q r .number ≡ 4) ↔ (Each (λ x. NotNegative (x .offset)) rs → ⊥)
-  -- and where none is, with 7 exactly when the pieces that exist do not fit
+  -- on a good container a good request is refused with 4 exactly when some offset reaches before byte 0
+  pub before-start : (rs : List Read) → wellFormed c ≡ true → requestOf q ≡ some (read rs) →
+      (answered c q r .number ≡ 4) ↔ (Each (λ x. NotBefore (x .offset) (length (dataOf c))) rs → ⊥)
+  -- and where none does, with 7 exactly when the pieces that exist do not fit
   pub no-space : (rs : List Read) → wellFormed c ≡ true → requestOf q ≡ some (read rs) →
-      Each (λ x. NotNegative (x .offset)) rs →
+      Each (λ x. NotBefore (x .offset) (length (dataOf c))) rs →
       (answered c q r .number ≡ 7) ↔ (length r < length (replyOf (map (readPiece (dataOf c)) rs)))
 
 -- What a read returns of any data d: the part that exists (T2, T6, D6).
 pub record ShortPiece (d : List ℕ) (x : Read) : Type 0 where
-  -- it stands in the data at its offset o, before what is not asked for
-  pub part : (o : ℕ) → x .offset ≡ pos o → take o d ++ (readPiece d x ++ drop (o + x .count) d) ≡ d
+  -- it stands in the data at the position o that its offset names, before what is not asked for
+  pub part : (o : ℕ) → resolve (x .offset) (length d) ≡ some o → take o d ++ (readPiece d x ++ drop (o + x .count) d) ≡ d
   -- inside the data: as many bytes as asked for
-  pub inside : (o : ℕ) → x .offset ≡ pos o → o + x .count ≤ length d → length (readPiece d x) ≡ x .count
+  pub inside : (o : ℕ) → resolve (x .offset) (length d) ≡ some o → o + x .count ≤ length d → length (readPiece d x) ≡ x .count
   -- up to the end or across it: the data from o on
-  pub across : (o : ℕ) → x .offset ≡ pos o → length d ≤ o + x .count → readPiece d x ≡ drop o d
+  pub across : (o : ℕ) → resolve (x .offset) (length d) ≡ some o → length d ≤ o + x .count → readPiece d x ≡ drop o d
   -- at the end or past it: nothing
-  pub past : (o : ℕ) → x .offset ≡ pos o → length d ≤ o → readPiece d x ≡ []
+  pub past : (o : ℕ) → resolve (x .offset) (length d) ≡ some o → length d ≤ o → readPiece d x ≡ []
   -- a test that asks alike looks at the same piece
   pub alike : (t : Test) → t .offset ≡ x .offset → t .count ≡ x .count → testPiece d t ≡ readPiece d x

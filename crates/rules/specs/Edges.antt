@@ -1,7 +1,7 @@
--- Numbers at the edges (docs/RULES.md, P1 to P10, P12 to P20, P30 to P38), as tables: what create and then a few
--- requests give, what reads return, which bytes a test-and-write changes, what slack allows, and what the longest buffer
--- holds.
-use Prim.Native.Nat.{ℕ, zero, suc}
+-- Numbers at the edges (docs/RULES.md, P1 to P10, P12 to P20, P30 to P44), as tables: what create and then a few
+-- requests give, what reads return, which bytes a test-and-write changes, what slack allows, what the longest buffer
+-- holds, and what offsets from the end name.
+use Prim.Native.Nat.{ℕ, zero, suc, _-_}
 use mathlib.Core.Path.{_≡_}
 use mathlib.Core.Bool.{Bool, false, cond}
 use mathlib.Core.List.{List, [], _∷_, _++_, map}
@@ -12,6 +12,7 @@ use Rattle.octets.specs.Strings.{same, join}
 use Rattle.octets.specs.Moves.{put}
 use Rattle.format.specs.Layout.{magic, nodeAt, sizeWidth, sizeAt, offsetAt, fixedPlaces, dataOf, slackOf, usedEnd}
 use Rattle.format.specs.Parts.{encode, fresh, noLease}
+use Rattle.rules.specs.Requests.{secretAt}
 use Rattle.rules.specs.Outcomes.{outcome, answerOf, noNode, answered, containerAfter, replyAfter, createOutcome}
 use Rattle.rules.specs.Outcomes.{createdContainer}
 use Rattle.rules.specs.Stretch.{inFields, inWritten, stretchFrom, stretchTo}
@@ -27,6 +28,10 @@ node = replicate 20 7
 -- A reply space that is long enough.
 abbrev pub space : List ℕ
 space = replicate 8 0
+
+-- The offset -k as its field has it, in two's complement.
+abbrev pub back : ℕ → ℕ
+back k = 4294967296 - k
 
 -- A write: where, and its bytes.
 pub record Put : Type 0 where
@@ -226,25 +231,28 @@ seen x =
       reply = replyAfter lettered (x .request) r;
     }
 
--- Short names: one read or several beside so many bytes, and a row of what they give.
+-- Short names: one read or several, or a test-and-write, beside so many bytes, and a row of what they give.
 abbrev pub looks : List (List ℕ) → ℕ → Look
 looks es n = record { request = reading es; space = n }
 
 abbrev pub look : ℕ → ℕ → ℕ → Look
 look at count n = looks (readEntry at count ∷ []) n
 
+abbrev pub tried : List Check → List Put → ℕ → Look
+tried ts ws n = record { request = testAndWrite ts ws 0 0; space = n }
+
 abbrev pub shows : ℕ → ℕ → List ℕ → Seen
 shows n count r = record { number = n; count = count; reply = r }
 
 -- The table of reads: P13 (across the end, by a read, by a read that stops there and by a test; at the end; past it; of
 -- length 0 at the end and past it), P14 (the greatest length at 0, the greatest offset, both), P15 (short pieces in a
--- space that holds them exactly, and in one byte less), P16 (offset -1, alone and behind another read, and without any
--- space).
+-- space that holds them exactly, and in one byte less), P16 (an offset that reaches before byte 0, alone and behind
+-- another read, and without any space).
 abbrev pub reads : List Look
 reads =
     look 3 4 6
     ∷ look 3 2 6
-    ∷ record { request = testAndWrite (check 3 4 3 (68 ∷ 69 ∷ []) ∷ []) [] 0 0; space = 6 }
+    ∷ tried (check 3 4 3 (68 ∷ 69 ∷ []) ∷ []) [] 6
     ∷ look 5 1 6
     ∷ look 6 1 6
     ∷ look 5 0 6
@@ -254,9 +262,9 @@ reads =
     ∷ look 2147483647 4294967295 4
     ∷ looks (readEntry 3 4 ∷ readEntry 9 9 ∷ readEntry 0 2 ∷ []) 16
     ∷ looks (readEntry 3 4 ∷ readEntry 9 9 ∷ readEntry 0 2 ∷ []) 15
-    ∷ look 4294967295 1 6
-    ∷ looks (readEntry 0 1 ∷ readEntry 4294967295 1 ∷ []) 10
-    ∷ looks (readEntry 0 1 ∷ readEntry 4294967295 1 ∷ []) 0
+    ∷ look (back 7) 1 6
+    ∷ looks (readEntry 0 1 ∷ readEntry (back 7) 1 ∷ []) 10
+    ∷ looks (readEntry 0 1 ∷ readEntry (back 7) 1 ∷ []) 0
     ∷ []
 
 -- What each gives, in the same order.
@@ -552,6 +560,134 @@ longResults bs =
     ∷ gives 0 (3 ∷ []) [] (472 ∷ 472 ∷ [])
     ∷ []
 
+-- The table of offsets from the end on ABCDE: P39 (a read at the end; of ten bytes across the end from its fourth last
+-- byte; from byte 0; from before it, and of no bytes; at the lowest offset; a test at the end of no bytes, and of five;
+-- from byte 0; from before it; from byte 0 beside a write at the end), P44 (an offset before byte 0 beside another
+-- enabler; beside too little space; beside a false test; beside too little room, where byte 0 itself gives 11; in a
+-- request that breaks its format; one that reaches byte 0 only on the size that the write before it gives).
+abbrev pub fromEnd : List Look
+fromEnd =
+    look (back 1) 10 6
+    ∷ look (back 5) 10 8
+    ∷ look (back 6) 10 9
+    ∷ look (back 7) 10 9
+    ∷ look (back 7) 0 9
+    ∷ look (back 2147483648) 1 9
+    ∷ tried (check (back 1) 0 3 [] ∷ []) [] 4
+    ∷ tried (check (back 1) 5 3 [] ∷ []) [] 4
+    ∷ tried (check (back 6) 5 3 letters ∷ []) [] 9
+    ∷ tried (check (back 7) 0 3 [] ∷ []) [] 4
+    ∷ tried (check (back 6) 5 3 letters ∷ []) (bytesAt (back 1) (88 ∷ []) ∷ []) 9
+    ∷ record { request = put secretAt (replicate 32 1) (write (bytesAt (back 7) (88 ∷ []) ∷ [])); space = 4 }
+    ∷ tried (check (back 7) 5 3 letters ∷ []) [] 0
+    ∷ tried (check 0 1 3 [] ∷ []) (bytesAt (back 7) (88 ∷ []) ∷ []) 5
+    ∷ tried [] (bytesAt 5 (replicate 24 70) ∷ bytesAt (back 31) [] ∷ []) 4
+    ∷ tried [] (bytesAt 5 (replicate 24 70) ∷ bytesAt (back 30) [] ∷ []) 4
+    ∷ tried (check (back 7) 0 7 [] ∷ []) [] 4
+    ∷ tried [] (bytesAt 5 (70 ∷ []) ∷ bytesAt (back 7) (88 ∷ []) ∷ []) 4
+    ∷ []
+
+-- What each gives, in the same order.
+abbrev pub fromEndSeen : List Seen
+fromEndSeen =
+    shows 0 4 (0 ∷ 0 ∷ 0 ∷ 0 ∷ 9 ∷ 9 ∷ [])
+    ∷ shows 0 8 (0 ∷ 0 ∷ 0 ∷ 4 ∷ 66 ∷ 67 ∷ 68 ∷ 69 ∷ [])
+    ∷ shows 0 9 (0 ∷ 0 ∷ 0 ∷ 5 ∷ letters)
+    ∷ shows 4 0 (replicate 9 9)
+    ∷ shows 4 0 (replicate 9 9)
+    ∷ shows 4 0 (replicate 9 9)
+    ∷ shows 0 4 (0 ∷ 0 ∷ 0 ∷ 0 ∷ [])
+    ∷ shows 0 4 (0 ∷ 0 ∷ 0 ∷ 0 ∷ [])
+    ∷ shows 0 9 (0 ∷ 0 ∷ 0 ∷ 5 ∷ letters)
+    ∷ shows 4 0 (replicate 4 9)
+    ∷ shows 0 9 (0 ∷ 0 ∷ 0 ∷ 5 ∷ letters)
+    ∷ shows 4 0 (replicate 4 9)
+    ∷ shows 4 0 []
+    ∷ shows 4 0 (replicate 5 9)
+    ∷ shows 4 0 (replicate 4 9)
+    ∷ shows 11 0 (replicate 4 9)
+    ∷ shows 3 0 (replicate 4 9)
+    ∷ shows 0 0 (replicate 4 9)
+    ∷ []
+
+-- ABCDE behind the data, as a request.
+abbrev pub appendLetters : List ℕ
+appendLetters = write (bytesAt (back 1) letters ∷ [])
+
+-- A far write of `A`, writes behind it, and a cut to 10, as a request.
+abbrev pub farAnd : ℕ → List Put → List ℕ
+farAnd at ws = testAndWrite [] (bytesAt at (65 ∷ []) ∷ ws) 1 10
+
+-- The lowest offset, -2,147,483,648.
+abbrev pub lowest : ℕ
+lowest = back 2147483648
+
+-- The table of writes from the end: P40 (an append on empty data; two in one request; two in two; one and a write over
+-- its last byte; a write a byte before byte 0 of empty data; an empty write there; an empty write at the end; an append
+-- behind an empty write past the end; behind a gap; over byte 0 behind a gap; before byte 0 there; on ABCDE an append and
+-- then a write over byte 0, by the size that the append gives), P41 (an append of the last byte that has room; of one
+-- more; after a cut in a request before; before a cut in the same request; a write over byte 1 before that cut, by the
+-- size before it), P42 (an append behind a far write and a cut to 10, with room for ten bytes and with one byte less),
+-- P43 (the lowest offset behind far writes and before a cut to 10, on the sizes 2^31 - 1, 2^31 and 2^31 - 2; on 2^31
+-- behind an empty write there; behind an empty write at 2^31 - 1, which gives no size).
+abbrev pub appends : List Case
+appends =
+    given 500 (write (bytesAt (back 1) (65 ∷ 66 ∷ []) ∷ []) ∷ [])
+    ∷ given 500 (write (bytesAt (back 1) (65 ∷ 66 ∷ []) ∷ bytesAt (back 1) (67 ∷ 68 ∷ []) ∷ []) ∷ [])
+    ∷ given 500
+    (write (bytesAt (back 1) (65 ∷ 66 ∷ []) ∷ []) ∷ write (bytesAt (back 1) (67 ∷ 68 ∷ []) ∷ []) ∷ [])
+    ∷ given 500 (write (bytesAt (back 1) (65 ∷ 66 ∷ []) ∷ bytesAt (back 2) (67 ∷ []) ∷ []) ∷ [])
+    ∷ given 500 (write (bytesAt (back 2) (88 ∷ []) ∷ []) ∷ [])
+    ∷ given 500 (write (bytesAt (back 2) [] ∷ []) ∷ [])
+    ∷ given 500 (write (bytesAt (back 1) [] ∷ []) ∷ [])
+    ∷ given 500 (write (bytesAt 9 [] ∷ bytesAt (back 1) (65 ∷ []) ∷ []) ∷ [])
+    ∷ given 500 (write (bytesAt 3 (65 ∷ []) ∷ bytesAt (back 1) (66 ∷ []) ∷ []) ∷ [])
+    ∷ given 500 (write (bytesAt 3 (65 ∷ []) ∷ bytesAt (back 5) (66 ∷ []) ∷ []) ∷ [])
+    ∷ given 500 (write (bytesAt 3 (65 ∷ []) ∷ bytesAt (back 6) (66 ∷ []) ∷ []) ∷ [])
+    ∷ given 500 (appendLetters ∷ write (bytesAt (back 1) (70 ∷ []) ∷ bytesAt (back 7) (88 ∷ []) ∷ []) ∷ [])
+    ∷ given 473 (write (bytesAt (back 1) (65 ∷ []) ∷ []) ∷ [])
+    ∷ given 473 (write (bytesAt (back 1) (65 ∷ 66 ∷ []) ∷ []) ∷ [])
+    ∷ given 500 (appendLetters ∷ testAndWrite [] [] 1 2 ∷ write (bytesAt (back 1) (90 ∷ []) ∷ []) ∷ [])
+    ∷ given 500 (appendLetters ∷ testAndWrite [] (bytesAt (back 1) (90 ∷ []) ∷ []) 1 2 ∷ [])
+    ∷ given 500 (appendLetters ∷ testAndWrite [] (bytesAt (back 5) (90 ∷ []) ∷ []) 1 2 ∷ [])
+    ∷ given 482 (farAnd 2147483647 (bytesAt (back 1) (66 ∷ []) ∷ []) ∷ [])
+    ∷ given 481 (farAnd 2147483647 (bytesAt (back 1) (66 ∷ []) ∷ []) ∷ [])
+    ∷ given 482 (farAnd 2147483646 (bytesAt lowest (66 ∷ []) ∷ []) ∷ [])
+    ∷ given 482 (farAnd 2147483647 (bytesAt lowest (66 ∷ []) ∷ []) ∷ [])
+    ∷ given 482 (farAnd 2147483645 (bytesAt lowest (66 ∷ []) ∷ []) ∷ [])
+    ∷ given 482 (farAnd 2147483647 (bytesAt lowest [] ∷ bytesAt lowest (66 ∷ []) ∷ []) ∷ [])
+    ∷ given 482 (testAndWrite [] (bytesAt 2147483647 [] ∷ bytesAt lowest (66 ∷ []) ∷ []) 1 10 ∷ [])
+    ∷ []
+
+-- What each case gives, in the same order.
+abbrev pub appended : List Outcome
+appended =
+    gives 0 (0 ∷ []) (65 ∷ 66 ∷ []) (472 ∷ 474 ∷ [])
+    ∷ gives 0 (0 ∷ []) (65 ∷ 66 ∷ 67 ∷ 68 ∷ []) (472 ∷ 476 ∷ [])
+    ∷ gives 0 (0 ∷ 0 ∷ []) (65 ∷ 66 ∷ 67 ∷ 68 ∷ []) (472 ∷ 474 ∷ 476 ∷ [])
+    ∷ gives 0 (0 ∷ []) (65 ∷ 67 ∷ []) (472 ∷ 474 ∷ [])
+    ∷ gives 0 (4 ∷ []) [] (472 ∷ 472 ∷ [])
+    ∷ gives 0 (4 ∷ []) [] (472 ∷ 472 ∷ [])
+    ∷ gives 0 (0 ∷ []) [] (472 ∷ 472 ∷ [])
+    ∷ gives 0 (0 ∷ []) (65 ∷ []) (472 ∷ 473 ∷ [])
+    ∷ gives 0 (0 ∷ []) (0 ∷ 0 ∷ 0 ∷ 65 ∷ 66 ∷ []) (472 ∷ 477 ∷ [])
+    ∷ gives 0 (0 ∷ []) (66 ∷ 0 ∷ 0 ∷ 65 ∷ []) (472 ∷ 476 ∷ [])
+    ∷ gives 0 (4 ∷ []) [] (472 ∷ 472 ∷ [])
+    ∷ gives 0 (0 ∷ 0 ∷ []) (88 ∷ 66 ∷ 67 ∷ 68 ∷ 69 ∷ 70 ∷ []) (472 ∷ 477 ∷ 478 ∷ [])
+    ∷ gives 0 (0 ∷ []) (65 ∷ []) (472 ∷ 473 ∷ [])
+    ∷ gives 0 (11 ∷ []) [] (472 ∷ 472 ∷ [])
+    ∷ gives 0 (0 ∷ 0 ∷ 0 ∷ []) (65 ∷ 66 ∷ 90 ∷ []) (472 ∷ 477 ∷ 477 ∷ 477 ∷ [])
+    ∷ gives 0 (0 ∷ 0 ∷ []) (65 ∷ 66 ∷ []) (472 ∷ 477 ∷ 477 ∷ [])
+    ∷ gives 0 (0 ∷ 0 ∷ []) (65 ∷ 90 ∷ []) (472 ∷ 477 ∷ 477 ∷ [])
+    ∷ gives 0 (0 ∷ []) (replicate 10 0) (472 ∷ 482 ∷ [])
+    ∷ gives 0 (11 ∷ []) [] (472 ∷ 472 ∷ [])
+    ∷ gives 0 (0 ∷ []) (66 ∷ replicate 9 0) (472 ∷ 482 ∷ [])
+    ∷ gives 0 (0 ∷ []) (0 ∷ 66 ∷ replicate 8 0) (472 ∷ 482 ∷ [])
+    ∷ gives 0 (4 ∷ []) [] (472 ∷ 472 ∷ [])
+    ∷ gives 0 (0 ∷ []) (0 ∷ 66 ∷ replicate 8 0) (472 ∷ 482 ∷ [])
+    ∷ gives 0 (4 ∷ []) [] (472 ∷ 472 ∷ [])
+    ∷ []
+
 -- The claim of the tables.
 pub record EdgesHold : Type 0 where
   -- every case gives its result
@@ -581,3 +717,7 @@ pub record EdgesHold : Type 0 where
       length q ≡ 65537 → map result (longCases middle long bs q) ≡ longResults bs
   -- its request that writes bs has 65,536 bytes
   pub long-request : (bs : List ℕ) → length bs ≡ 65488 → length (writeOf bs) ≡ 65536
+  -- every row of the table of offsets from the end gives what stands beside it
+  pub from-end : map seen fromEnd ≡ fromEndSeen
+  -- every case of writes from the end gives its result
+  pub append-table : map result appends ≡ appended

@@ -1,20 +1,21 @@
 -- Offsets, pieces, tests and replies (docs/RULES.md, T1 to T6, R1).
-use Prim.Native.Nat.{ℕ}
+use Prim.Native.Nat.{ℕ, _-_}
 use mathlib.Core.Bool.{Bool, true, false, cond, not}
 use mathlib.Core.List.{List, _++_, map}
 use mathlib.Core.Option.{Option, none, some}
 use lib.ListN.{length, take, drop}
-use lib.Dec.{eqb}
+use lib.Dec.{eqb, leb}
 use lib.IntN.{ℤ, pos, negsuc}
 use Rattle.octets.specs.Numbers.{digits}
 use Rattle.octets.specs.Strings.{order, join}
 use Rattle.rules.specs.Requests.{Test, Read}
 use Rattle.octets.specs.Lists.{isSome, orElse}
 
--- How an offset is resolved on data of a size: a position, or none where row 4 refuses it (T1).
+-- How an offset is resolved on data of a size. One that is not negative is a position. Of -(k + 1) it is the k-th before
+-- the end, so that -1 names the end; one that reaches before byte 0 names none, and row 4 refuses it (T1).
 unfoldable pub resolve : ℤ → ℕ → Option ℕ
 resolve (pos n) size = some n
-resolve (negsuc k) size = none
+resolve (negsuc k) size = cond (leb k size) (some (size - k)) none
 
 unfoldable pub resolves : ℤ → ℕ → Bool
 resolves o size = isSome (resolve o size)

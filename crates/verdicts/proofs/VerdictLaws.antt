@@ -3,10 +3,10 @@ use mathlib.Core.Path.{_≡_, refl, sym, ap, _∙_}
 use mathlib.Core.Bool.{Bool, not, _&&_}
 use mathlib.Core.List.{List, [], _∷_, _++_, map}
 use mathlib.Core.Option.{Option, none, some}
-use Prim.Native.Nat.{ℕ, zero, suc, _+_, _≤_, max}
+use Prim.Native.Nat.{ℕ, zero, suc, _+_, _≤_}
 use native.Mathlib.Omega.{arith}
 use lib.Dec.{ltb}
-use lib.ListN.{length, take, drop, length-take, length-drop}
+use lib.ListN.{length, take, drop, length-take}
 use Rattle.format.specs.declared.layout.Frame.{Frame}
 use Rattle.requests.specs.declared.forms.Parted.{Parted}
 use Rattle.replies.specs.declared.pieces.Measured.{Measured}
@@ -15,7 +15,7 @@ use Rattle.verdicts.specs.declared.writing.Verdict.{Verdict}
 use Rattle.verdicts.specs.Writing.{Decided, verdictOf}
 use Rattle.format.specs.Judging.{Known}
 use Rattle.octets.proofs.RowLaws.{Numbered, rows-first, rows-second}
-use Rattle.rules.specs.Requests.{Request, Write, writesFrom, entryCount, entryOffset, entrySize}
+use Rattle.rules.specs.Requests.{Request, Write, writesFrom, entryCount, entryOffset, entrySize, sumFrom}
 use Rattle.octets.specs.Rows.{Row, firstRow, row}
 use Rattle.rules.specs.Outcomes.{after, replyTo, rows, admitRows}
 use Rattle.rules.specs.Outcomes.{withBytes, findRows, roomRows}
@@ -35,29 +35,22 @@ use Rattle.octets.specs.Strings.{same}
 use Rattle.replies.proofs.PieceLaws.{test-pieces, test-resolve}
 use Rattle.requests.specs.Cursors.{bytesFrom}
 use Rattle.format.proofs.RoundTrip.{parts-valid}
-use Rattle.requests.proofs.CursorLaws.{position-below}
+use Rattle.requests.proofs.CursorLaws.{entry-most}
+use Rattle.writes.proofs.TableLaws.{grow-most}
 use Rattle.writes.specs.Sizes.{reachedBy}
 
 -- ---- the size that the writes reach
-grow-bound : (n at k : ℕ) → grow n at k ≤ max n (at + k)
-unfolding grow
-grow-bound n at zero = omega arith
-grow-bound n at (suc k) = omega arith
-
-reach-bound : (n p b : ℕ) (q : List ℕ) (size : ℕ)
-    → sizeAll (placed (writesFrom n p b q) size) size ≤ max size (2147483648 + length q)
-unfolding sizeAll placed writesFrom
-reach-bound zero p b q size = omega arith
-reach-bound (suc n) p b q size =
+reach-bound : (n p b : ℕ) (q : List ℕ) (size m : ℕ) → size ≤ m + b → 2147483647 ≤ m
+    → b + sumFrom (λ i. entryCount i q) entrySize n p ≤ length q
+    → sizeAll (placed (writesFrom n p b q) size) size ≤ m + length q
+unfolding sizeAll placed writesFrom sumFrom
+reach-bound zero p b q size m h l i = omega arith
+reach-bound (suc n) p b q size m h l i =
     let k : ℕ = length (take (entryCount p q) (drop b q)) in
-    let l : k ≤ length q = simp (length-take, length-drop) (omega arith) in
-    let g : ℕ = grow size (position (entryOffset p q) size) k in
-    omega (
-      arith,
-      position-below p q size,
-      grow-bound size (position (entryOffset p q) size) k,
-      reach-bound n (p + entrySize) (b + entryCount p q) q g,
-    )
+    let at : ℕ = position (entryOffset p q) size in
+    let short : k ≤ entryCount p q = simp length-take (omega arith) in
+    let on : grow size at k ≤ m + b + k = grow-most size at k (m + b) h (entry-most p q size (m + b) h (omega arith)) in
+    reach-bound n (p + entrySize) (b + entryCount p q) q (grow size at k) m (omega arith) l (omega arith)
 
 cut-bound : (cut : Option ℕ) (n : ℕ) → cutSize cut n ≤ n
 unfolding cutSize
@@ -129,13 +122,14 @@ module _ {c q d : List ℕ} {f : Frame} {t : Parted} {m : Measured} {x : Reached
   used-after : used (after (partsOf c) asks) ≡ usedLength (movedCount (f .offset) s) (f .extras)
   used-after = after-used c q f t s (F .known) final-is
 
-  pub final-bound : (s ≤ x .size) × (x .size ≤ f .size + 2147483648 + length q)
+  pub final-bound : (s ≤ x .size) × (x .size ≤ 2147483647 + f .size + length q)
   final-bound = (
     omega (arith, F .final, cut-bound (cutIn (t .cut)) (x .size)),
     omega (
       arith,
       ap (λ (y : Reached). y .size) (F .reached),
-      reach-bound (t .writes .count) (t .writes .first .at) (t .bodies .at) q (f .size),
+      reach-bound (t .writes .count) (t .writes .first .at) (t .bodies .at) q (f .size) (2147483647 + f .size)
+          (omega arith) (omega arith) (F .parted .bodies),
     ),
   )
 

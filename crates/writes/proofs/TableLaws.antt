@@ -11,14 +11,15 @@ use Rattle.octets.specs.Facts.{Octets}
 use Rattle.octets.specs.Moves.{put}
 use Rattle.octets.proofs.ListLaws.{and-assoc, and-true, take-min}
 use Rattle.octets.proofs.ChoiceLaws.{least-is}
-use Rattle.rules.specs.Requests.{Write, entrySize, entryOffset, entryCount, sumFrom, writesFrom}
+use Rattle.format.specs.Layout.{limit}
+use Rattle.rules.specs.Requests.{Write, requestLimit, entrySize, entryOffset, entryCount, sumFrom, writesFrom}
 use Rattle.rules.specs.Testing.{resolves}
 use Rattle.rules.specs.Writing.{padTo, writeAt, grow, placed, writesResolve, writeAll}
 use Rattle.rules.specs.Sizes.{sizeAll, clip}
 use Rattle.requests.specs.Cursors.{entryAt}
 use Rattle.requests.specs.Offsets.{resolvedOf}
 use Rattle.requests.specs.Forms.{PartedIn}
-use Rattle.requests.proofs.CursorLaws.{position-below, count-below}
+use Rattle.requests.proofs.CursorLaws.{entry-most, count-below}
 use Rattle.requests.proofs.FormLaws.{sum-next, times-next}
 use Rattle.writes.specs.Sizes.{gapEnd, lastGap, walkedBy}
 use Rattle.requests.specs.declared.cursors.Entry.{Entry}
@@ -36,6 +37,12 @@ pub grow-none : (n at k : ℕ) → k ≡ 0 → grow n at k ≡ n
 unfolding grow
 grow-none n at zero h = refl
 grow-none n at (suc k) h = absurd (omega arith)
+
+-- A write at a position of at most m, on data of at most m bytes, leaves no more than its own bytes beyond m.
+pub grow-most : (n at k m : ℕ) → n ≤ m → at ≤ m → grow n at k ≤ m + k
+unfolding grow
+grow-most n at zero m h l = omega arith
+grow-most n at (suc k) m h l = omega arith
 
 -- A write inside the data is a put.
 put-writes : (d : List ℕ) (at : ℕ) (bs : List ℕ) → at + length bs ≤ length d → put at bs d ≡ writeAt d at bs
@@ -70,6 +77,11 @@ rest-start q t k = record { rows = rw (k .writes-stride) at (k .writes .inside);
 pub rest-fits : {q : List ℕ} {v p b : ℕ} → Rest q v p b → 0 < v → p + entrySize ≤ length q
 rest-fits {q} {v} {p} R h = omega (arith, R .rows, times-next entrySize v p h)
 
+-- The most that a size can be on the way from s, where the new bytes up to b have been written: no offset names a
+-- position beyond 2,147,483,647 and the size.
+abbrev pub mostOnTheWay : ℕ → ℕ → ℕ
+mostOnTheWay s b = 2147483647 + s + b
+
 -- e is the first of these entries, and r its place on data of a size.
 pub record Taken (q : List ℕ) (v p b size : ℕ) (e : Entry) (r : Resolved) : Type 0 where
   pub some : 0 < v
@@ -103,8 +115,20 @@ module _ {q : List ℕ} {v p b size : ℕ} {e : Entry} {r : Resolved} (K : Taken
         bodies = omega (arith, bodies-are, K .rest .bodies);
       })
 
-  pub entry-bounds : Octets q → (r .position < 4294967296) × (e .count < 4294967296)
-  entry-bounds o = rw (K .place, K .entry) (omega (arith, position-below p q size), count-below p q o)
+  place-most : (s : ℕ) → size ≤ mostOnTheWay s b → r .position ≤ mostOnTheWay s b
+  place-most s h = rw (K .place) (entry-most p q size (mostOnTheWay s b) h (omega arith))
+
+  pub entry-bounds : Octets q → length q ≤ requestLimit → (s : ℕ) → s ≤ limit → size ≤ mostOnTheWay s b
+      → (r .position < 4294967296) × (e .count < 4294967296)
+  entry-bounds o l s h k = (
+    omega (arith, place-most s k, K .rest .bodies),
+    rw (K .entry) (count-below p q o),
+  )
+
+  pub entry-small : (s : ℕ) → size ≤ mostOnTheWay s b
+      → grow size (r .position) (e .count) ≤ mostOnTheWay s (b + e .count)
+  entry-small s k =
+      omega (arith, grow-most size (r .position) (e .count) (mostOnTheWay s b) k (place-most s k))
 
   -- What is left behind the entry, and the size that its offsets are resolved on.
   abbrev pub left : List Write
@@ -161,6 +185,7 @@ pub record Walking (q : List ℕ) (ws : List Write) (size v at : ℕ) (resolves 
   pub body : ℕ
   pub rest : Rest q v at body
   pub walked : walking resolves (writesFrom v at body q) after end ≡ walkedBy ws size
+  pub small : after ≤ mostOnTheWay size body
 
 module _ {q : List ℕ} {ws : List Write} {size v at : ℕ} {s : Bool} {after end : ℕ}
     (R : Walking q ws size v at s after end) where
@@ -171,6 +196,7 @@ module _ {q : List ℕ} {ws : List Write} {size v at : ℕ} {s : Bool} {after en
     body = _;
     rest = entry-rest K;
     walked = rw (g, h, k, and-assoc, ← entry-resolves K, ← entry-size K, ← entry-gap K end) (R .walked);
+    small = rw h (entry-small K size (R .small));
   }
 
   pub walking-end : v ≤ 0
@@ -183,6 +209,7 @@ module _ {q : List ℕ} {ws : List Write} {size v at : ℕ} {s : Bool} {after en
 pub record Overlaying (q : List ℕ) (ws : List Write) (size : ℕ) (a d : List ℕ) (v at body after : ℕ) : Type 0 where
   pub rest : Rest q v at body
   pub same : length d ≡ length a
+  pub small : after ≤ mostOnTheWay size body
   pub written : writeAll (map (clip (length a)) (placed (writesFrom v at body q) after)) d
       ≡ writeAll (map (clip (length a)) (placed ws size)) a
 
@@ -198,6 +225,7 @@ module _ {q : List ℕ} {ws : List Write} {size : ℕ} {a d : List ℕ} {v at bo
       rw (k, h) (record {
         rest = entry-rest K;
         same = l ∙ O .same;
+        small = entry-small K size (O .small);
         written = entry-written K (length a) d x (sym (O .same)) (rw m at g) ∙ O .written;
       })
 

@@ -1,8 +1,9 @@
 // The writes put into data that already has its final size.
 ghost use mathlib.Core.Path.{_≡_};
 ghost use mathlib.Core.List.{map};
-ghost use Prim.Native.Nat.{_-_};
+ghost use Prim.Native.Nat.{_-_, _≤_};
 ghost use lib.ListN.{length, take};
+ghost use Rattle.format.specs.Layout.{limit};
 ghost use Rattle.rules.specs.Writing.{writeAt, writeAll, placed};
 ghost use Rattle.rules.specs.Sizes.{clip};
 ghost use Rattle.requests.specs.Forms.{PartedIn, writesIn};
@@ -25,7 +26,7 @@ fn overlay_one(d: &mut [u8], position: usize, bytes: &[u8])
 
 // The writes in order, each clipped to the data; `size` is the size that their offsets are resolved on.
 pub(crate) fn overlay_all(d: &mut [u8], q: &[u8], t: Parted, size: usize)
-    requires { ⌜ PartedIn (now q) t ⌝ }
+    requires { ⌜ PartedIn (now q) t × (size ≤ limit) ⌝ }
     ensures { λ _. ⌜ now (d .exit)
         ≡ writeAll (map (clip (length (now (d .entry)))) (placed (writesIn t (now (q .entry))) size))
         (now (d .entry)) ⌝ }

@@ -2,7 +2,7 @@
 ghost use mathlib.Core.Path.{_≡_};
 ghost use Prim.Native.Nat.{ℕ, _+_, _≤_};
 ghost use lib.ListN.{length};
-ghost use Rattle.format.specs.Layout.{dataAt};
+ghost use Rattle.format.specs.Layout.{dataAt, limit};
 ghost use Rattle.format.specs.Parts.{partsOf, encode};
 ghost use Rattle.format.specs.Judging.{Known};
 ghost use Rattle.rules.specs.Writing.{placed};
@@ -39,7 +39,7 @@ fn put_fields(c: &mut [u8], frame: Frame)
 
 // The writes go into the first f bytes of data and slack, f being the final size of the data.
 fn write_data(c: &mut [u8], f: usize, q: &[u8], t: Parted, size: usize)
-    requires { ⌜ (dataAt + f ≤ length (now c)) × PartedIn (now q) t ⌝ }
+    requires { ⌜ (dataAt + f ≤ length (now c)) × PartedIn (now q) t × (size ≤ limit) ⌝ }
     ensures { λ _. ⌜ ((o k : ℕ) → dataAt + f ≤ o → Turns o k kept
         (overlaid (placed (writesIn t (now (q .entry))) size) f) (now (c .entry)) (now (c .exit))) ⌝ }
 {

@@ -1,6 +1,7 @@
 // Sizes before anything is written: a size that exists only on the way is never materialised.
 ghost use mathlib.Core.Path.{_≡_};
 ghost use Prim.Native.Nat.{_≤_, _<_};
+ghost use Rattle.format.specs.Layout.{limit};
 ghost use Rattle.rules.specs.Writing.{grow};
 ghost use Rattle.rules.specs.Sizes.{cutSize};
 ghost use Rattle.requests.specs.Forms.{PartedIn, writesIn, cutIn};
@@ -51,7 +52,7 @@ fn gap_end(end: usize, size: usize, position: usize, count: usize) -> usize
 
 // The table of the writes, an entry at a time.
 fn walk(q: &[u8], t: Parted, size: usize) -> Walked
-    requires { ⌜ PartedIn (now q) t ⌝ }
+    requires { ⌜ PartedIn (now q) t × (size ≤ limit) ⌝ }
     ensures { λ r. ⌜ r ≡ walkedBy (writesIn t (now (q .entry))) size ⌝ }
 {
     let table = t.writes;
@@ -78,7 +79,7 @@ fn walk(q: &[u8], t: Parted, size: usize) -> Walked
 
 // The size after the writes.
 pub fn reach(q: &[u8], t: Parted, size: usize) -> Reached
-    requires { ⌜ PartedIn (now q) t ⌝ }
+    requires { ⌜ PartedIn (now q) t × (size ≤ limit) ⌝ }
     ensures { λ r. ⌜ r ≡ reachedBy (writesIn t (now (q .entry))) size ⌝ }
 {
     let walked = walk(q, t, size);
@@ -90,7 +91,7 @@ pub fn reach(q: &[u8], t: Parted, size: usize) -> Reached
 
 // How many of the bytes that the data grows by, to f bytes, must be cleared: the writes fill the others.
 pub(crate) fn bare(q: &[u8], t: Parted, size: usize, f: usize) -> usize
-    requires { ⌜ PartedIn (now q) t × (size ≤ f) ⌝ }
+    requires { ⌜ PartedIn (now q) t × (size ≤ limit) × (size ≤ f) ⌝ }
     ensures { λ r. ⌜ r ≡ bareBy (writesIn t (now (q .entry))) size f ⌝ }
 {
     let walked = walk(q, t, size);

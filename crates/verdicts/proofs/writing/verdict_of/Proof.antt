@@ -48,7 +48,8 @@ measure-requires c κs = let s = c .before .before .before .before in
     (s .pre .1 .tests, lent-small (s .pre .0) (c .before .data-end .ensures))
 
 reach-requires : tie.Need-reach-requires
-reach-requires c κs = search needs
+reach-requires c κs = let s = c .before .before .before .before .before in
+    (s .pre .1, omega (arith, known-room (s .pre .0)))
 
 cut-size-requires : tie.Need-cut-size-requires
 cut-size-requires c κs = search needs

@@ -47,7 +47,8 @@ taken c =
 
 loop-holds : tie.Need-loop-holds Inv-loop μ-loop
 loop-holds c =
-    record { rest = rest-start _ _ (c .before .before .before .before .before .pre); same = refl; written = refl }
+    let s = c .before .before .before .before .before in
+    record { rest = rest-start _ _ (s .pre .0); same = refl; small = omega arith; written = refl }
 
 entry-requires : tie.Need-entry-requires Inv-loop μ-loop
 entry-requires c κs =
@@ -69,7 +70,9 @@ overlay-one-requires c κs = search needs
 grown-requires : tie.Need-grown-requires Inv-loop μ-loop
 grown-requires c κs =
     let r = c .before .before .before .before .before .before in
-    entry-bounds (taken r) (octets r)
+    let l = r .before .before .before .before in
+    let s = l .before .before .before .before .before .before in
+    entry-bounds (taken r) (octets r) (s .pre .0 .short) _ (s .pre .1) (l .loop .inv .small)
 
 sub-left : tie.Need-sub-left Inv-loop μ-loop
 sub-left c = search needs

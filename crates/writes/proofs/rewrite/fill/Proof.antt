@@ -3,6 +3,7 @@ use native.Mathlib.Omega.{arith}
 use Rattle.octets.specs.Facts.{Octets}
 use Rattle.format.specs.View.{tailSize}
 use Rattle.format.specs.Parts.{partsOf}
+use Rattle.format.proofs.KnownLaws.{known-room}
 use Rattle.format.proofs.ViewLaws.{formed-laid}
 use Rattle.rules.specs.Outcomes.{after}
 use Rattle.requests.specs.Forms.{cutIn}
@@ -14,7 +15,8 @@ use Rattle.writes.proofs.rewrite.fill.Tie as tie
 write-data-requires : tie.Need-write-data-requires
 write-data-requires c κs =
     let s = c .before .before .before in
-    (omega (arith, final-room (s .pre .0) (s .pre .2)), s .pre .1)
+    let k = known-room (s .pre .0) in
+    (omega (arith, final-room (s .pre .0) (s .pre .2)), s .pre .1, omega arith)
 
 put-size-requires : tie.Need-put-size-requires
 put-size-requires c κs =

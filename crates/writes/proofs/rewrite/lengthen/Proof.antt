@@ -21,7 +21,8 @@ use Rattle.writes.proofs.rewrite.lengthen.Tie as tie
 bare-requires : tie.Need-bare-requires
 bare-requires c κs =
     let s = c .before .before in
-    (s .pre .1, omega (arith, known-room (s .pre .0) .0, s .pre .3))
+    let k = known-room (s .pre .0) in
+    (s .pre .1, omega arith, omega (arith, s .pre .3))
 
 lift-requires : tie.Need-lift-requires
 lift-requires c κs =
@@ -32,7 +33,8 @@ lift-requires c κs =
 write-data-requires : tie.Need-write-data-requires
 write-data-requires c κs =
     let s = c .before .before .before .before .before .before .before .before in
-    (omega (arith, final-room (s .pre .0) (s .pre .2)), s .pre .1)
+    let k = known-room (s .pre .0) in
+    (omega (arith, final-room (s .pre .0) (s .pre .2)), s .pre .1, omega arith)
 
 resized-requires : tie.Need-resized-requires
 resized-requires c κs =

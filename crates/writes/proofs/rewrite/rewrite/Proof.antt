@@ -46,7 +46,7 @@ write-data-requires : tie.Need-write-data-requires
 write-data-requires c κs =
     let s = c .before .before .before .before .before .before .before in
     let m = known-room (s .pre .0) in
-    (omega (arith, m .0, m .1), s .pre .1)
+    (omega (arith, m .0, m .1), s .pre .1, omega arith)
 
 same-length-4 : tie.Need-same-length-4
 same-length-4 c = search needs

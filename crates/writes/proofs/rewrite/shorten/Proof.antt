@@ -26,7 +26,8 @@ free-requires c κs =
 write-data-requires : tie.Need-write-data-requires
 write-data-requires c κs =
     let s = c .before .before .before .before .before .before .before .before .before .before .before in
-    (omega (arith, final-room (s .pre .0) (s .pre .2)), s .pre .1)
+    let k = known-room (s .pre .0) in
+    (omega (arith, final-room (s .pre .0) (s .pre .2)), s .pre .1, omega arith)
 
 same-length : tie.Need-same-length
 same-length c = search needs

@@ -31,7 +31,7 @@ gap-is c =
     )
 
 sub-result : tie.Need-sub-result
-sub-result c = omega (arith, gap-is c, c .before .before .before .pre .1)
+sub-result c = omega (arith, gap-is c, c .before .before .before .pre .2)
 
 returns : tie.Need-returns
 returns c = let a = c .before .before .before .args in ap (λ (n : ℕ). n - a .size) (gap-is c .0)

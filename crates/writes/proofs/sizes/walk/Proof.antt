@@ -43,11 +43,11 @@ taken c b r =
     }
 
 loop-holds : tie.Need-loop-holds Inv-loop μ-loop
-loop-holds c b r = record { body = b; rest = r; walked = refl }
+loop-holds c b r = record { body = b; rest = r; walked = refl; small = omega arith }
 
 entry-requires : tie.Need-entry-requires Inv-loop μ-loop
 entry-requires c κs =
-    let R = c .before .loop .inv _ (rest-start _ _ (c .before .before .before .before .before .pre)) in
+    let R = c .before .loop .inv _ (rest-start _ _ (c .before .before .before .before .before .pre .0)) in
     (omega arith, rest-fits (R .rest) (c .loop-test .taken))
 
 resolve-requires : tie.Need-resolve-requires Inv-loop μ-loop
@@ -63,8 +63,9 @@ grown-requires : tie.Need-grown-requires Inv-loop μ-loop
 grown-requires c κs =
     let r = c .before .before in
     let l = r .before .before .before .before in
-    let R = l .loop .inv _ (rest-start _ _ (l .before .before .before .before .pre)) in
-    entry-bounds (taken r _ (R .rest)) (octets r)
+    let s = l .before .before .before .before in
+    let R = l .loop .inv _ (rest-start _ _ (s .pre .0)) in
+    entry-bounds (taken r _ (R .rest)) (octets r) (s .pre .0 .short) _ (s .pre .1) (R .small)
 
 sub-left : tie.Need-sub-left Inv-loop μ-loop
 sub-left c = search needs
@@ -82,7 +83,7 @@ loop-again c b r =
 
 returns : tie.Need-returns Inv-loop μ-loop
 returns c =
-    let s = rest-start _ _ (c .before .before .before .before .before .pre) in
+    let s = rest-start _ _ (c .before .before .before .before .before .pre .0) in
     walking-end (c .before .loop .inv _ s) (c .loop-test .left)
 
 pub walk-spec : {M : Type 1} → statement M

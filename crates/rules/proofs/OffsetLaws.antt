@@ -1,0 +1,123 @@
+-- Offsets: the whole number that one stands for, and what it is resolved to. Assumes nothing.
+use mathlib.Core.Path.{_≡_, refl, sym, ap, _∙_}
+use mathlib.Core.Bool.{Bool, true, false, false≢true, _&&_}
+use mathlib.Core.List.{List, [], _∷_, _++_, map}
+use mathlib.Core.Option.{Option, none, some}
+use Prim.Native.Nat.{ℕ, suc, _+_, _-_, _≤_, _<_}
+use native.Mathlib.Omega.{arith}
+use lib.ListN.{length}
+use lib.Dec.{leb, ltb→lt, le→leb}
+use lib.IntN.{ℤ, pos, negsuc, natAbs, pos-ne-negsuc}
+use lib.Signed.{_≤ℤ_, _<ℤ_}
+use borrow.Author.Tests.{leb-true, leb-false, lt-ltb, le-ltb}
+use Rattle.octets.specs.Facts.{Each}
+use Rattle.octets.specs.Lists.{isSome, orElse, every}
+use Rattle.octets.proofs.ListLaws.{both, each-map, every-each, each-every}
+use Rattle.rules.specs.Requests.{Write}
+use Rattle.rules.specs.Testing.{resolve, resolves, position}
+use Rattle.rules.specs.Writing.{grow, placed, writesResolve}
+use Rattle.rules.specs.Sizes.{sizeAll}
+use Rattle.rules.specs.Offsets.{named, NotBefore, WritesNotBefore, Resolving}
+
+-- ---- an offset counted from the end
+named-at : (k n : ℕ) → k ≤ n → named (negsuc k) n ≡ pos (n - k)
+unfolding named
+named-at k n h = let e : n + 1 - suc k ≡ n - k = omega arith in rw (le-ltb (n + 1) (suc k) (omega arith), e)
+
+named-below : (k n : ℕ) → n < k → named (negsuc k) n ≡ negsuc (k - suc n)
+unfolding named
+named-below k n h = let e : suc k - suc (n + 1) ≡ k - suc n = omega arith in rw (lt-ltb (n + 1) (suc k) (omega arith), e)
+
+-- ---- what an offset comes to on a size: a position, or a number below 0
+pub data Comes (o : ℤ) (n : ℕ) : Type 0 where
+  to : (p : ℕ) → resolve o n ≡ some p → named o n ≡ pos p → Comes o n
+  below : (k : ℕ) → resolve o n ≡ none → named o n ≡ negsuc k → Comes o n
+
+pub comes : (o : ℤ) (n : ℕ) → Comes o n
+unfolding resolve named
+comes (pos p) n = to p refl refl
+comes (negsuc k) n = go (leb k n) refl
+  where
+    go : (b : Bool) → leb k n ≡ b → Comes (negsuc k) n
+    go true e = to (n - k) (rw e) (named-at k n (leb-true k n e))
+    go false e = below (k - suc n) (rw e) (named-below k n (leb-false k n e))
+
+-- ---- the claim of every offset and size
+some-is : (p k : ℕ) → _≡_ {A = Option ℕ} (some p) (some k) → p ≡ k
+unfolding orElse
+some-is p k e = ap (λ (x : Option ℕ). orElse x 0) e
+
+some-none : (p : ℕ) → _≡_ {A = Option ℕ} (some p) none → ⊥
+unfolding isSome
+some-none p e = false≢true (sym (ap (λ (x : Option ℕ). isSome x) e))
+
+pub resolving : (o : ℤ) (n : ℕ) → Resolving o n
+resolving o n = go (comes o n)
+  where
+    go : Comes o n → Resolving o n
+    go (to p e f) = record {
+      names = λ k. (
+        (λ g. ap pos (sym (some-is p k (sym e ∙ g))) ∙ sym f),
+        (λ g. e ∙ ap some (sym (ap natAbs (g ∙ f)))),
+      );
+      before = (
+        (λ g. absurd (some-none p (sym e ∙ g))),
+        (λ g. absurd (let z = rw f at g in omega (arith, ltb→lt p 0 (z .lt)))),
+      );
+    }
+    go (below k e f) = record {
+      names = λ p. (
+        (λ g. absurd (some-none p (sym g ∙ e))),
+        (λ g. absurd (pos-ne-negsuc p k (g ∙ f))),
+      );
+      before = ((λ g. rw f (record { lt = tt })), (λ g. e));
+    }
+
+-- ---- an offset resolves exactly when it does not reach before byte 0
+pub resolves-named : (o : ℤ) (n : ℕ) → resolves o n ≡ true → NotBefore o n
+unfolding resolves isSome
+resolves-named o n e = go (comes o n)
+  where
+    go : Comes o n → NotBefore o n
+    go (to p f g) = rw g (record { le = le→leb 0 p (omega arith) })
+    go (below k f g) = absurd (false≢true (rw f at e))
+
+pub named-resolves : (o : ℤ) (n : ℕ) → NotBefore o n → resolves o n ≡ true
+unfolding resolves isSome
+named-resolves o n h = go (comes o n)
+  where
+    go : Comes o n → isSome (resolve o n) ≡ true
+    go (to p f g) = rw f
+    go (below k f g) = absurd (let z = rw g at h in z .le)
+
+-- the same of all the offsets of a list
+module _ {A : Type 0} (at : A → ℤ) (xs : List A) (n : ℕ) where
+  pub all-named : every (λ x. resolves (at x) n) xs ≡ true → Each (λ x. NotBefore (at x) n) xs
+  all-named e =
+      each-map (λ x. resolves (at x) n ≡ true) (λ x. NotBefore (at x) n) (λ x. resolves-named (at x) n) xs
+      (every-each (λ x. resolves (at x) n) xs e)
+
+  pub named-all : Each (λ x. NotBefore (at x) n) xs → every (λ x. resolves (at x) n) xs ≡ true
+  named-all e =
+      each-every (λ x. resolves (at x) n) xs
+      (each-map (λ x. NotBefore (at x) n) (λ x. resolves (at x) n ≡ true) (λ x. named-resolves (at x) n) xs e)
+
+-- and of writes, each on the size that those before it give
+pub writes-named : (ws : List Write) (n : ℕ) → writesResolve ws n ≡ true → WritesNotBefore ws n
+unfolding writesResolve sizeAll placed
+writes-named [] n e [] w vs f = absurd (let z : _≡_ {A = ℕ} 0 1 = cc in omega arith)
+writes-named [] n e (u ∷ us) w vs f = absurd (let z : _≡_ {A = ℕ} 0 1 = cc in omega arith)
+writes-named (x ∷ ws) n e [] w vs f =
+    let k : x ≡ w = cc in
+    rw (← k) (resolves-named (x .offset) n (both (resolves (x .offset) n) _ e .0))
+writes-named (x ∷ ws) n e (u ∷ us) w vs f =
+    let k : x ≡ u = cc in
+    let l : ws ≡ us ++ (w ∷ vs) = cc in
+    rw (← k) (writes-named ws _ (both (resolves (x .offset) n) _ e .1) us w vs l)
+
+pub named-writes : (ws : List Write) (n : ℕ) → WritesNotBefore ws n → writesResolve ws n ≡ true
+unfolding writesResolve sizeAll placed
+named-writes [] n h = refl
+named-writes (w ∷ ws) n h =
+    rw (named-resolves (w .offset) n (h [] w ws refl))
+    (named-writes ws _ (λ us v vs e. h (w ∷ us) v vs (ap (λ (l : List Write). w ∷ l) e)))
