@@ -1,10 +1,11 @@
 -- Demand 3, whole, over bytes. Assumes nothing.
 use mathlib.Core.Path.{_≡_, refl, sym, ap, _∙_}
 use mathlib.Core.Bool.{Bool, true, false, cond}
-use mathlib.Core.List.{List, [], _∷_}
+use mathlib.Core.List.{List, [], _∷_, _++_}
 use Prim.Native.Nat.{ℕ}
 use lib.ListN.{length, getD}
 use lib.Dec.{eqb}
+use borrow.Author.Tests.{not-false}
 use Rattle.format.specs.Layout.{dataOf}
 use Rattle.format.specs.Parts.{Parts, partsOf, encode, fresh}
 use Rattle.format.specs.Claims.{Valid}
@@ -13,15 +14,16 @@ use Rattle.rules.specs.Requests.{requestOf}
 use Rattle.rules.specs.Outcomes.{afterOf, createOutcome, createdContainer}
 use Rattle.rules.proofs.Demand1.{created, created-valid}
 use Rattle.histories.specs.Runs.{Call, Heard, hears, leaves, ruleOutcome, ruleHears, ruleLeaves, answers, final}
-use Rattle.histories.specs.Runs.{isLease, isData, noRoom, Never, Woven}
+use Rattle.histories.specs.Runs.{names, isLease, isData, only, beside, noRoom, Never, Woven}
 use Rattle.rules.specs.Changes.{Change, sizeAfter, byteOver, byteAfter, changesOf}
 use Rattle.histories.specs.Accepted.{took, accepted}
 use Rattle.histories.specs.Claims.{Alike, ByRules, Told, Demand3, InUse, Histories}
-use Rattle.histories.proofs.Sides.{agree}
+use Rattle.histories.proofs.Sides.{agree, looks-agree}
 use Rattle.histories.proofs.Follows.{valid-final, follows-answers, follows-final}
 use Rattle.rules.proofs.ChangeLaws.{performAll, length-performAll, at-performAll, performAll-append, after-bytes}
 use Rattle.histories.proofs.Steps.{heardBy, leftBy, earlyOf, heard-number, dataSide, leaseSide, room-stays}
-use Rattle.histories.proofs.Steps.{data-calls, lease-calls, follows}
+use Rattle.histories.proofs.Steps.{data-calls, lease-calls, lease-changes, ruleNames, names-sided, follows-names}
+use Rattle.histories.proofs.Steps.{follows}
 
 -- ---- what the rules give
 pub by-rules : (h : List Call) (p : Parts) → Valid p → ByRules h (encode p) p
@@ -54,6 +56,37 @@ parts-agree p q d l r = λ i. record {
       l i .leases;
 }
 
+-- the accepted changes are those of the reads and test-and-writes
+took-lease : (x : Call) (a : Heard) (n : ℕ) → isData x ≡ false → took x a n ≡ []
+unfolding took isData
+took-lease x a n e = rw (lease-changes x n (not-false (isLease x) e)) (go (eqb (a .answer .number) 0))
+  where
+    go : (b : Bool) → cond {A = List Change} b [] [] ≡ []
+    go true = refl
+    go false = refl
+
+accepted-none : (h : List Call) (n : ℕ) → accepted h [] n ≡ []
+unfolding accepted
+accepted-none [] n = refl
+accepted-none (x ∷ h) n = refl
+
+accepted-data : (h : List Call) (ys : List Heard) (n : ℕ) →
+    accepted h ys n ≡ accepted (only isData h) (beside isData h ys) n
+unfolding accepted only beside sizeAfter
+accepted-data [] ys n = refl
+accepted-data (x ∷ xs) [] n = sym (accepted-none (only isData (x ∷ xs)) n)
+accepted-data (x ∷ xs) (a ∷ ys) n =
+    go (isData x) refl (accepted-data xs ys n) (accepted-data xs ys (sizeAfter (took x a n) n))
+  where
+    go : (b : Bool) → isData x ≡ b → accepted xs ys n ≡ accepted (only isData xs) (beside isData xs ys) n →
+        accepted xs ys (sizeAfter (took x a n) n)
+        ≡ accepted (only isData xs) (beside isData xs ys) (sizeAfter (took x a n) n) →
+        took x a n ++ accepted xs ys (sizeAfter (took x a n) n)
+        ≡ accepted (cond b (x ∷ only isData xs) (only isData xs))
+        (cond b (a ∷ beside isData xs ys) (beside isData xs ys)) n
+    go true e i j = ap (λ (os : List Change). took x a n ++ os) j
+    go false e i j = rw (took-lease x a n e) i
+
 pub woven-alike : (h k : List Call) (p : Parts) → Valid p → Woven h k →
     Never noRoom (answers hears leaves h (encode p)) → Never noRoom (answers hears leaves k (encode p))
     → Alike h k (encode p)
@@ -72,6 +105,16 @@ woven-alike h k p v w nh nk =
       data-heard = rw (bh .heard, bk .heard) (d .answers-agree);
       lease-heard = rw (bh .heard, bk .heard) (l .answers-agree);
       bytes-equal = bh .buffer ∙ ap encode e ∙ sym (bk .buffer);
+      positions-equal =
+          ap (beside isData h) (follows-answers Valid encode ruleNames ruleLeaves names leaves follows-names h p v)
+          ∙ looks-agree isData noRoom ruleHears ruleLeaves dataSide (λ x p. heardBy (earlyOf x p) x p)
+          (λ x p. leftBy (earlyOf x p) x p) ruleNames ruleNames names-sided data-calls h k p (w .data-calls) mh mk
+          ∙ sym (ap (beside isData k)
+          (follows-answers Valid encode ruleNames ruleLeaves names leaves follows-names k p v));
+      changes-equal =
+          accepted-data h (answers hears leaves h (encode p)) (length (dataOf (encode p)))
+          ∙ rw (w .data-calls, bh .heard, bk .heard, d .answers-agree) refl
+          ∙ sym (accepted-data k (answers hears leaves k (encode p)) (length (dataOf (encode p))));
     }
 
 -- ---- the data bytes: the accepted changes, performed

@@ -8,7 +8,8 @@ use Prim.Native.Nat.{ℕ, _+_, _≤_, _<_}
 use lib.ListN.{length, getD, drop}
 use lib.Seq.{getD-take, getD-drop}
 use lib.Dec.{leb}
-use lib.IntN.{pos}
+use native.Mathlib.Omega.{arith}
+use lib.IntN.{ℤ}
 use borrow.Author.Tests.{le-leb}
 use Rattle.format.specs.Layout.{dataOf}
 use Rattle.format.specs.Parts.{Parts, partsOf, encode, fresh}
@@ -20,12 +21,13 @@ use Rattle.octets.specs.Last.{lastSaid, newer}
 use Rattle.rules.specs.Testing.{resolve, position, piece}
 use Rattle.rules.specs.Writing.{Placed, placed}
 use Rattle.rules.proofs.Demand1.{created, created-valid}
+use Rattle.rules.proofs.Offsets.{offsets-resolve}
 use Rattle.histories.specs.Runs.{Call, hears, leaves, answers, final}
 use Rattle.rules.specs.Changes.{Change, wrote, cutAt, sizeBy, sizeAfter, says, byteOver, byteAfter, cutChange}
 use Rattle.rules.specs.Changes.{writeChanges, changesOf}
 use Rattle.histories.specs.Accepted.{took, accepted}
-use Rattle.histories.specs.Incident.{Cuts, laterChanges, Untouched, middle, end, Forgets, Incident}
-use Rattle.histories.specs.Incident.{IncidentInUse}
+use Rattle.histories.specs.Incident.{Cuts, laterChanges, Untouched, middle, end, Forgets, Appends, ForgetsAppend}
+use Rattle.histories.specs.Incident.{Incident, IncidentInUse}
 use Rattle.histories.proofs.Demand3.{size-final, each-final}
 use Rattle.octets.proofs.ListLaws.{lastSaid-append, newer-assoc}
 
@@ -127,12 +129,12 @@ module _ (p : Parts) (v : Valid p) (before : List Call) (x : Call) (after : List
       ∙ ap (λ (os : List Change). byteOver os i (getD d i 0)) (accepted-append (before ++ (x ∷ [])) after c n)
       ∙ rw (← s, a .1, append-assoc (a .0) (cutAt m ∷ []) since) (cut-forgets (a .0) since m i (getD d i 0) h)
 
-  incident-read : (o n j : ℕ) → j < n → m ≤ o + j →
-      getD (piece (dataOf (end c before x after)) (pos o) n) j 0 ≡ byteAfter since (o + j)
-  unfolding piece position resolve orElse
-  incident-read o n j h g =
+  incident-read : (o : ℤ) (p n j : ℕ) → resolve o (length (dataOf (end c before x after))) ≡ some p → j < n →
+      m ≤ p + j → getD (piece (dataOf (end c before x after)) o n) j 0 ≡ byteAfter since (p + j)
+  unfolding piece position orElse
+  incident-read o p n j r h g =
       let e : List ℕ = dataOf (end c before x after) in
-      getD-take n (drop o e) j 0 h ∙ getD-drop o e j 0 ∙ incident-byte (o + j) g
+      rw r (getD-take n (drop p e) j 0 h ∙ getD-drop p e j 0 ∙ incident-byte (p + j) g)
 
   forgets : Forgets c before x after m
   unfolding since
@@ -142,15 +144,53 @@ module _ (p : Parts) (v : Valid p) (before : List Call) (x : Call) (after : List
     zeros = λ i h u. incident-byte i h ∙ untouched-zero since i u;
   }
 
+-- ---- an append behind all that
+final-append : (h k : List Call) (c : List ℕ) → final leaves (h ++ k) c ≡ final leaves k (final leaves h c)
+unfolding final
+final-append [] k c = refl
+final-append (x ∷ h) k c = final-append h k (leaves x c)
+
+-- what an append leaves
+append-leaves : (y : Call) (c bs : List ℕ) → Appends y c bs → dataOf (leaves y c) ≡ dataOf c ++ bs
+unfolding leaves hears
+append-leaves y c bs a =
+    offsets-resolve c (y .request) (y .space) .appended (a .enabler) (a .tests) (a .writes) (a .asks) (a .at-end)
+    (a .done)
+    ∙ ap (λ (l : List ℕ). dataOf c ++ l) (sym (a .bytes))
+
+size-cut : (a : List Change) (m n : ℕ) → sizeAfter (a ++ (cutAt m ∷ [])) n ≤ m
+unfolding sizeAfter sizeBy
+size-cut a m n = rw (sizeAfter-append a (cutAt m ∷ []) n) (omega arith)
+
+module _ (p : Parts) (v : Valid p) (before : List Call) (x : Call) (after : List Call) (y : Call) (m : ℕ) (bs : List ℕ)
+    (cuts : Cuts x (final leaves before (encode p)) m) (adds : Appends y (end (encode p) before x after) bs) where
+  forgets-append : ForgetsAppend (encode p) before x after y m bs
+  unfolding final
+  forgets-append =
+      let h : List Call = before ++ (x ∷ []) in
+      let n : ℕ = length (p .bytes) in
+      let a = accepted-cut before x (encode p) n m cuts in
+      record {
+        behind =
+            ap (λ (l : List Call). dataOf (final leaves l (encode p))) (sym (append-assoc h after (y ∷ [])))
+            ∙ ap dataOf (final-append (h ++ after) (y ∷ []) (encode p))
+            ∙ append-leaves y (end (encode p) before x after) bs adds;
+        short = rw (size-final h p v (p .bytes) refl, a .1) (size-cut (a .0) m n);
+        forgets = forgets p v before x (after ++ (y ∷ [])) m cuts;
+      }
+
 -- THE INCIDENT cannot happen again
 pub incident : (b node enabler : List ℕ) → Incident b node enabler
 incident b node enabler = record {
   forgets = λ e. rw (created b node enabler e)
       (forgets (fresh (length b) node enabler) (created-valid b node enabler e));
+  appends = λ e. rw (created b node enabler e)
+      (forgets-append (fresh (length b) node enabler) (created-valid b node enabler e));
 }
 
 -- Nor on a container in use.
 pub incident-in-use : (c : List ℕ) → IncidentInUse c
 incident-in-use c = record {
   forgets = λ w o. rw (encode-parts c w o) at (forgets (partsOf c) (parts-valid c w));
+  appends = λ w o. rw (encode-parts c w o) at (forgets-append (partsOf c) (parts-valid c w));
 }

@@ -40,6 +40,29 @@ module _ {R A S P : Type 0} (mine : R → Bool) (bad : A → Bool) (ans : R → 
   seen x [] s n = record { on-side = refl; ends = refl }
   seen x (r ∷ rs) s n = seen-step x r rs s (seen x rs (next r s) (n .1)) (n .0) (mine r) refl
 
+  -- whatever else a call of this side sees by the view alone, it sees as if the others were not there
+  module _ {B : Type 0} (look : R → S → B) (plook : R → P → B)
+      (sees : (r : R) (s : S) → mine r ≡ true → look r s ≡ plook r (view s)) where
+    looked-step : Sided → (r : R) (rs : List R) (s : S) →
+        beside mine rs (answers look next rs (next r s)) ≡ answers plook pnext (only mine rs) (view (next r s)) →
+        bad (ans r s) ≡ false → (b : Bool) → mine r ≡ b →
+        beside mine (r ∷ rs) (answers look next (r ∷ rs) s) ≡ answers plook pnext (only mine (r ∷ rs)) (view s)
+    unfolding answers only beside
+    looked-step x r rs s i n true e =
+        rw e (ap₂ _∷_ (sees r s e) (i ∙ ap (answers plook pnext (only mine rs)) (x .moves r s e n)))
+    looked-step x r rs s i n false e = rw e (i ∙ ap (answers plook pnext (only mine rs)) (x .stays r s e n))
+
+    looked : Sided → (h : List R) (s : S) → Never bad (answers ans next h s) →
+        beside mine h (answers look next h s) ≡ answers plook pnext (only mine h) (view s)
+    unfolding answers only beside
+    looked x [] s n = refl
+    looked x (r ∷ rs) s n = looked-step x r rs s (looked x rs (next r s) (n .1)) (n .0) (mine r) refl
+
+    pub looks-agree : Sided → (h k : List R) (s : S) → only mine h ≡ only mine k → Never bad (answers ans next h s) →
+        Never bad (answers ans next k s) →
+        beside mine h (answers look next h s) ≡ beside mine k (answers look next k s)
+    looks-agree x h k s e nh nk = looked x h s nh ∙ rw e (sym (looked x k s nk))
+
   pub record Agree (h k : List R) (s : S) : Type 0 where
     pub answers-agree : beside mine h (answers ans next h s) ≡ beside mine k (answers ans next k s)
     pub view-agrees : view (final next h s) ≡ view (final next k s)

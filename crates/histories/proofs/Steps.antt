@@ -1,7 +1,8 @@
 -- One call over parts: what it hears and leaves, its two sides, and that bytes follow parts. Assumes nothing.
 use mathlib.Core.Path.{_≡_, refl, sym, ap, _∙_}
 use mathlib.Core.Bool.{Bool, true, false, cond, _&&_, true≢false}
-use mathlib.Core.List.{[]}
+use mathlib.Core.List.{List, []}
+use mathlib.Core.Option.{Option}
 use Prim.Native.Nat.{ℕ}
 use lib.ListN.{length}
 use lib.Dec.{eqb, leb}
@@ -9,8 +10,10 @@ use borrow.Author.Tests.{not-true, not-false}
 use Rattle.octets.specs.Moves.{put}
 use Rattle.format.specs.Parts.{Parts, countIn, encode}
 use Rattle.format.specs.Claims.{Valid}
-use Rattle.format.proofs.RoundTrip.{parts-encode}
+use Rattle.format.proofs.RoundTrip.{parts-encode, data-encode}
 use Rattle.rules.specs.Requests.{requestOf, kindOf, testWriteOf}
+use Rattle.rules.specs.Changes.{changesOf}
+use Rattle.rules.specs.Offsets.{positionsOf}
 use Rattle.rules.specs.Outcomes.{withBytes, withLeases, after, afterOf, rows, requestRows, replies, counted}
 use Rattle.rules.specs.Outcomes.{answerTo, replyTo, replyBytes, answered, replyAfter, admitRows}
 use Rattle.rules.specs.Outcomes.{findRows}
@@ -19,7 +22,7 @@ use Rattle.rules.proofs.RequestLaws.{Kinds, broken, tests, adds, renews, cancel
 use Rattle.rules.proofs.OutcomeLaws.{outcome-encode, answer-number, room-after, leftParts, left-encode, left-valid}
 use Rattle.rules.proofs.OutcomeLaws.{earlyRows, early, outcome-early}
 use Rattle.histories.specs.Runs.{Call, Heard, hears, leaves, ruleOutcome, ruleHears, ruleLeaves, isLease}
-use Rattle.histories.specs.Runs.{isData, noRoom}
+use Rattle.histories.specs.Runs.{names, isData, noRoom}
 use Rattle.histories.proofs.Follows.{Follows}
 use Rattle.histories.proofs.Sides.{Sided}
 use Rattle.octets.specs.Lists.{maybe}
@@ -113,6 +116,19 @@ alone-left side x p a =
     ∙ rw (a .after-side) (ap (λ (n : ℕ). cond (eqb n 0) (afterOf (side p) (requestOf (x .request))) (side p))
     (a .number))
 
+-- a lease call has no writes and no cut
+changes-none-by : (x : Call) (n : ℕ) → isLease x ≡ true → Kinds (x .request) → changesOf (requestOf (x .request)) n ≡ []
+unfolding changesOf
+changes-none-by x n l (broken e) = rw e refl
+changes-none-by x n l (tests k h o e) = never l (lease-kind x 1 k)
+changes-none-by x n l (adds k o e) = rw e refl
+changes-none-by x n l (renews k o e) = rw e refl
+changes-none-by x n l (cancels k o e) = rw e refl
+changes-none-by x n l (reads k o e) = rw e refl
+
+pub lease-changes : (x : Call) (n : ℕ) → isLease x ≡ true → changesOf (requestOf (x .request)) n ≡ []
+lease-changes x n l = changes-none-by x n l (kinds (x .request))
+
 -- a call of the other side leaves a side as it was
 data-stays-by : (x : Call) (p : Parts) → isLease x ≡ true → Kinds (x .request)
     → dataSide (afterOf p (requestOf (x .request))) ≡ dataSide p
@@ -149,6 +165,14 @@ room-stays x p = go (eqb (ruleOutcome x p) 0)
     go true = room-after p (requestOf (x .request))
     go false = refl
 
+-- ---- the positions that a call's offsets name, over parts
+unfoldable pub ruleNames : Call → Parts → List (Option ℕ)
+ruleNames x p = positionsOf (requestOf (x .request)) (length (p .bytes))
+
+pub names-sided : (x : Call) (p : Parts) → isData x ≡ true → ruleNames x p ≡ ruleNames x (dataSide p)
+unfolding ruleNames dataSide
+names-sided x p m = refl
+
 -- ---- the two sides of the rules
 pub data-calls : Sided isData noRoom ruleHears ruleLeaves dataSide (λ x p. heardBy (earlyOf x p) x p)
     (λ x p. leftBy (earlyOf x p) x p)
@@ -183,6 +207,13 @@ leaves-encode x p v = left-encode p (x .request) (x .space) v
 pub valid-left : (x : Call) (p : Parts) → Valid p → Valid (ruleLeaves x p)
 unfolding ruleLeaves ruleOutcome leftParts
 valid-left x p v = left-valid p (x .request) (length (x .space)) v
+
+names-encode : (x : Call) (p : Parts) → Valid p → names x (encode p) ≡ ruleNames x p
+unfolding names ruleNames
+names-encode x p v = rw (data-encode p v)
+
+pub follows-names : Follows Valid encode ruleNames ruleLeaves names leaves
+follows-names = record { answer = names-encode; after = leaves-encode; lasts = valid-left }
 
 pub follows : Follows Valid encode ruleHears ruleLeaves hears leaves
 follows = record { answer = hears-encode; after = leaves-encode; lasts = valid-left }

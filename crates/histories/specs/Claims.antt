@@ -9,17 +9,21 @@ use Rattle.format.specs.Layout.{dataOf, leasesOf}
 use Rattle.octets.specs.Facts.{Octets}
 use Rattle.format.specs.Parts.{Parts, partsOf, encode, fresh}
 use Rattle.histories.specs.Runs.{Call, hears, leaves, ruleHears, ruleLeaves, answers, final, isLease, isData}
-use Rattle.histories.specs.Runs.{beside, noRoom, Never, Woven}
+use Rattle.histories.specs.Runs.{names, beside, noRoom, Never, Woven}
 use Rattle.rules.specs.Changes.{Change, sizeAfter, byteOver, byteAfter}
 use Rattle.rules.specs.Outcomes.{createOutcome, createdContainer}
 use Rattle.histories.specs.Accepted.{accepted}
 
 -- Two histories on the same container bytes: beside each read and test-and-write the same is heard in both, beside each
--- lease request too, and the whole buffer ends the same (H6).
+-- lease request too, and the whole buffer ends the same; each offset names the same position in both, and the accepted
+-- writes and cuts are the same (H6, H15).
 pub record Alike (h k : List Call) (c : List ℕ) : Type 0 where
   pub data-heard : beside isData h (answers hears leaves h c) ≡ beside isData k (answers hears leaves k c)
   pub lease-heard : beside isLease h (answers hears leaves h c) ≡ beside isLease k (answers hears leaves k c)
   pub bytes-equal : final leaves h c ≡ final leaves k c
+  pub positions-equal : beside isData h (answers names leaves h c) ≡ beside isData k (answers names leaves k c)
+  pub changes-equal : accepted h (answers hears leaves h c) (length (dataOf c))
+      ≡ accepted k (answers hears leaves k c) (length (dataOf c))
 
 -- After a history on container bytes c whose parts are p: everything heard, the whole buffer and every lease record are
 -- what the rules give for the parts alone (H8).

@@ -3,11 +3,14 @@ use Prim.Native.Nat.{ℕ}
 use mathlib.Core.Path.{_≡_}
 use mathlib.Core.Bool.{Bool, false, cond, not, _&&_}
 use mathlib.Core.List.{List, [], _∷_}
+use mathlib.Core.Option.{Option}
 use lib.ListN.{length}
 use lib.Dec.{eqb, leb}
 use Rattle.octets.specs.Moves.{put}
+use Rattle.format.specs.Layout.{dataOf}
 use Rattle.format.specs.Parts.{Parts}
 use Rattle.rules.specs.Requests.{kindOf, requestOf}
+use Rattle.rules.specs.Offsets.{positionsOf}
 use Rattle.octets.specs.Rows.{firstRow}
 use Rattle.rules.specs.Outcomes.{requestRows, replies, answerTo, afterOf, replyBytes, answered, containerAfter}
 use Rattle.rules.specs.Outcomes.{replyAfter}
@@ -29,6 +32,10 @@ hears x c = record { answer = answered c (x .request) (x .space); reply = replyA
 
 unfoldable pub leaves : Call → List ℕ → List ℕ
 leaves x c = containerAfter c (x .request) (x .space)
+
+-- The positions that the offsets of a call's request name on container bytes (T1).
+unfoldable pub names : Call → List ℕ → List (Option ℕ)
+names x c = positionsOf (requestOf (x .request)) (length (dataOf c))
 
 -- What the rules give for the parts alone: the same, computed with no container bytes (H8).
 unfoldable pub ruleOutcome : Call → Parts → ℕ
