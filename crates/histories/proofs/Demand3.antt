@@ -108,7 +108,8 @@ woven-alike h k p v w nh nk =
       positions-equal =
           ap (beside isData h) (follows-answers Valid encode ruleNames ruleLeaves names leaves follows-names h p v)
           ∙ looks-agree isData noRoom ruleHears ruleLeaves dataSide (λ x p. heardBy (earlyOf x p) x p)
-          (λ x p. leftBy (earlyOf x p) x p) ruleNames ruleNames names-sided data-calls h k p (w .data-calls) mh mk
+          (λ x p. leftBy (earlyOf x p) x p) ruleNames ruleNames (λ x p m r. names-sided x p) data-calls h k p
+          (w .data-calls) mh mk
           ∙ sym (ap (beside isData k)
           (follows-answers Valid encode ruleNames ruleLeaves names leaves follows-names k p v));
       changes-equal =

@@ -12,44 +12,16 @@ module _ {R A S P : Type 0} (mine : R → Bool) (bad : A → Bool) (ans : R → 
     pub moves : (r : R) (s : S) → mine r ≡ true → bad (ans r s) ≡ false → view (next r s) ≡ pnext r (view s)
     pub stays : (r : R) (s : S) → mine r ≡ false → bad (ans r s) ≡ false → view (next r s) ≡ view s
 
-  pub record Seen (h : List R) (s : S) : Type 0 where
-    pub on-side : beside mine h (answers ans next h s) ≡ answers pans pnext (only mine h) (view s)
-    pub ends : view (final next h s) ≡ final pnext (only mine h) (view s)
-
-  seen-step : Sided → (r : R) (rs : List R) (s : S) → Seen rs (next r s) → bad (ans r s) ≡ false → (b : Bool) → mine r
-      ≡ b → Seen (r ∷ rs) s
-  unfolding answers final only beside
-  seen-step x r rs s i n true e =
-      let v : view (next r s) ≡ pnext r (view s) = x .moves r s e n in
-      record {
-        on-side =
-            rw e (ap₂ _∷_ (x .answer r s e n) (i .on-side ∙ ap (answers pans pnext (only mine rs)) v));
-        ends =
-            rw e (i .ends ∙ ap (final pnext (only mine rs)) v);
-      }
-  seen-step x r rs s i n false e =
-      let v : view (next r s) ≡ view s = x .stays r s e n in
-      record {
-        on-side = rw e (i .on-side ∙ ap (answers pans pnext (only mine rs)) v);
-        ends = rw e (i .ends
-            ∙ ap (final pnext (only mine rs)) v);
-      }
-
-  pub seen : Sided → (h : List R) (s : S) → Never bad (answers ans next h s) → Seen h s
-  unfolding answers final only beside
-  seen x [] s n = record { on-side = refl; ends = refl }
-  seen x (r ∷ rs) s n = seen-step x r rs s (seen x rs (next r s) (n .1)) (n .0) (mine r) refl
-
-  -- whatever else a call of this side sees by the view alone, it sees as if the others were not there
+  -- what a call of this side finds by the view alone, it finds as if the others were not there
   module _ {B : Type 0} (look : R → S → B) (plook : R → P → B)
-      (sees : (r : R) (s : S) → mine r ≡ true → look r s ≡ plook r (view s)) where
+      (finds : (r : R) (s : S) → mine r ≡ true → bad (ans r s) ≡ false → look r s ≡ plook r (view s)) where
     looked-step : Sided → (r : R) (rs : List R) (s : S) →
         beside mine rs (answers look next rs (next r s)) ≡ answers plook pnext (only mine rs) (view (next r s)) →
         bad (ans r s) ≡ false → (b : Bool) → mine r ≡ b →
         beside mine (r ∷ rs) (answers look next (r ∷ rs) s) ≡ answers plook pnext (only mine (r ∷ rs)) (view s)
     unfolding answers only beside
     looked-step x r rs s i n true e =
-        rw e (ap₂ _∷_ (sees r s e) (i ∙ ap (answers plook pnext (only mine rs)) (x .moves r s e n)))
+        rw e (ap₂ _∷_ (finds r s e n) (i ∙ ap (answers plook pnext (only mine rs)) (x .moves r s e n)))
     looked-step x r rs s i n false e = rw e (i ∙ ap (answers plook pnext (only mine rs)) (x .stays r s e n))
 
     looked : Sided → (h : List R) (s : S) → Never bad (answers ans next h s) →
@@ -63,6 +35,19 @@ module _ {R A S P : Type 0} (mine : R → Bool) (bad : A → Bool) (ans : R → 
         beside mine h (answers look next h s) ≡ beside mine k (answers look next k s)
     looks-agree x h k s e nh nk = looked x h s nh ∙ rw e (sym (looked x k s nk))
 
+  ends-step : Sided → (r : R) (rs : List R) (s : S) →
+      view (final next rs (next r s)) ≡ final pnext (only mine rs) (view (next r s)) → bad (ans r s) ≡ false →
+      (b : Bool) → mine r ≡ b → view (final next (r ∷ rs) s) ≡ final pnext (only mine (r ∷ rs)) (view s)
+  unfolding final only
+  ends-step x r rs s i n true e = rw e (i ∙ ap (final pnext (only mine rs)) (x .moves r s e n))
+  ends-step x r rs s i n false e = rw e (i ∙ ap (final pnext (only mine rs)) (x .stays r s e n))
+
+  ends : Sided → (h : List R) (s : S) → Never bad (answers ans next h s) →
+      view (final next h s) ≡ final pnext (only mine h) (view s)
+  unfolding answers final only
+  ends x [] s n = refl
+  ends x (r ∷ rs) s n = ends-step x r rs s (ends x rs (next r s) (n .1)) (n .0) (mine r) refl
+
   pub record Agree (h k : List R) (s : S) : Type 0 where
     pub answers-agree : beside mine h (answers ans next h s) ≡ beside mine k (answers ans next k s)
     pub view-agrees : view (final next h s) ≡ view (final next k s)
@@ -70,7 +55,7 @@ module _ {R A S P : Type 0} (mine : R → Bool) (bad : A → Bool) (ans : R → 
   -- two histories with the same requests of this side, whatever else they hold and wherever that stands
   pub agree : Sided → (h k : List R) (s : S) → only mine h ≡ only mine k → Never bad (answers ans next h s)
       → Never bad (answers ans next k s) → Agree h k s
-  agree x h k s e nh nk =
-      let p : Seen h s = seen x h s nh in
-      let q : Seen k s = seen x k s nk in
-      record { answers-agree = p .on-side ∙ rw e (sym (q .on-side)); view-agrees = p .ends ∙ rw e (sym (q .ends)) }
+  agree x h k s e nh nk = record {
+    answers-agree = looks-agree ans pans (x .answer) x h k s e nh nk;
+    view-agrees = ends x h s nh ∙ rw e (sym (ends x k s nk));
+  }

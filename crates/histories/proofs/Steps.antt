@@ -169,9 +169,9 @@ room-stays x p = go (eqb (ruleOutcome x p) 0)
 unfoldable pub ruleNames : Call → Parts → List (Option ℕ)
 ruleNames x p = positionsOf (requestOf (x .request)) (length (p .bytes))
 
-pub names-sided : (x : Call) (p : Parts) → isData x ≡ true → ruleNames x p ≡ ruleNames x (dataSide p)
+pub names-sided : (x : Call) (p : Parts) → ruleNames x p ≡ ruleNames x (dataSide p)
 unfolding ruleNames dataSide
-names-sided x p m = refl
+names-sided x p = refl
 
 -- ---- the two sides of the rules
 pub data-calls : Sided isData noRoom ruleHears ruleLeaves dataSide (λ x p. heardBy (earlyOf x p) x p)

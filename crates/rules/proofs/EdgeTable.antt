@@ -106,8 +106,8 @@ far-reads =
       behind = record { writes = behind; is = refl; resolved = refl; made = far-made behind _ refl refl };
     }
 
--- What computing gives. P6, P42 and P43 are computed over any writes whose result is known: their own bytes are too many
--- to write out.
+-- What computing gives. P6, P42 and P43 are computed over any writes whose result is known: their own bytes are too
+-- many to write out.
 record Computed : Type 0 where
   p1 : map result (take 2 (cases [])) ≡ take 2 results
   p1-long : (long : List ℕ) → length long ≡ 16777217 →

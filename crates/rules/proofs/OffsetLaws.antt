@@ -26,7 +26,8 @@ named-at k n h = let e : n + 1 - suc k ≡ n - k = omega arith in rw (le-ltb (n 
 
 named-below : (k n : ℕ) → n < k → named (negsuc k) n ≡ negsuc (k - suc n)
 unfolding named
-named-below k n h = let e : suc k - suc (n + 1) ≡ k - suc n = omega arith in rw (lt-ltb (n + 1) (suc k) (omega arith), e)
+named-below k n h =
+    let e : suc k - suc (n + 1) ≡ k - suc n = omega arith in rw (lt-ltb (n + 1) (suc k) (omega arith), e)
 
 -- ---- what an offset comes to on a size: a position, or a number below 0
 pub data Comes (o : ℤ) (n : ℕ) : Type 0 where

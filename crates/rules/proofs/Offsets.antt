@@ -109,7 +109,8 @@ unfolding writeAt padTo
 write-end d [] = sym (append-nil d)
 write-end d (b ∷ bs) =
     let z : length d - length d ≡ 0 = omega arith in
-    let e : drop (length d + suc (length bs)) d ≡ [] = drop-of-length-le d {i = length d + suc (length bs)} (omega arith) in
+    let e : drop (length d + suc (length bs)) d ≡ [] =
+    drop-of-length-le d {i = length d + suc (length bs)} (omega arith) in
     rw (z, e, append-nil d, take-all (length d) d (omega arith)) (append-nil (d ++ (b ∷ bs)))
 
 write-ends : (ws : List Write) (d : List ℕ) → Each (λ w. w .offset ≡ negsuc 0) ws →

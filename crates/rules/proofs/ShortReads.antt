@@ -78,7 +78,8 @@ module _ (c q r : List ℕ) where
 
   -- with row 4 out of the way, row 7 decides
   sevens : (rs : List Read) → wellFormed c ≡ true → requestOf q ≡ some (read rs) →
-      Each (λ x. NotBefore (x .offset) (length (dataOf c))) rs → outcome c q (length r) ≡ cond (ltb (length r) (replySize c rs)) 7 0
+      Each (λ x. NotBefore (x .offset) (length (dataOf c))) rs →
+      outcome c q (length r) ≡ cond (ltb (length r) (replySize c rs)) 7 0
   unfolding firstRow
   sevens rs w f o =
       read-outcome c q (length r) rs w f

@@ -188,9 +188,11 @@ pub record ShortReads (c q r : List ℕ) : Type 0 where
 -- What a read returns of any data d: the part that exists (T2, T6, D6).
 pub record ShortPiece (d : List ℕ) (x : Read) : Type 0 where
   -- it stands in the data at the position o that its offset names, before what is not asked for
-  pub part : (o : ℕ) → resolve (x .offset) (length d) ≡ some o → take o d ++ (readPiece d x ++ drop (o + x .count) d) ≡ d
+  pub part : (o : ℕ) → resolve (x .offset) (length d) ≡ some o →
+      take o d ++ (readPiece d x ++ drop (o + x .count) d) ≡ d
   -- inside the data: as many bytes as asked for
-  pub inside : (o : ℕ) → resolve (x .offset) (length d) ≡ some o → o + x .count ≤ length d → length (readPiece d x) ≡ x .count
+  pub inside : (o : ℕ) → resolve (x .offset) (length d) ≡ some o → o + x .count ≤ length d →
+      length (readPiece d x) ≡ x .count
   -- up to the end or across it: the data from o on
   pub across : (o : ℕ) → resolve (x .offset) (length d) ≡ some o → length d ≤ o + x .count → readPiece d x ≡ drop o d
   -- at the end or past it: nothing

@@ -624,12 +624,12 @@ lowest = back 2147483648
 
 -- The table of writes from the end: P40 (an append on empty data; two in one request; two in two; one and a write over
 -- its last byte; a write a byte before byte 0 of empty data; an empty write there; an empty write at the end; an append
--- behind an empty write past the end; behind a gap; over byte 0 behind a gap; before byte 0 there; on ABCDE an append and
--- then a write over byte 0, by the size that the append gives), P41 (an append of the last byte that has room; of one
--- more; after a cut in a request before; before a cut in the same request; a write over byte 1 before that cut, by the
--- size before it), P42 (an append behind a far write and a cut to 10, with room for ten bytes and with one byte less),
--- P43 (the lowest offset behind far writes and before a cut to 10, on the sizes 2^31 - 1, 2^31 and 2^31 - 2; on 2^31
--- behind an empty write there; behind an empty write at 2^31 - 1, which gives no size).
+-- behind an empty write past the end; behind a gap; over byte 0 behind a gap; before byte 0 there; on ABCDE an append
+-- and then a write over byte 0, by the size that the append gives), P41 (an append of the last byte that has room; of
+-- one more; after a cut in a request before; before a cut in the same request; a write over byte 1 before that cut, by
+-- the size before it), P42 (an append behind a far write and a cut to 10, with room for ten bytes and with one byte
+-- less), P43 (the lowest offset behind far writes and before a cut to 10, on the sizes 2^31 - 1, 2^31 and 2^31 - 2; on
+-- 2^31 behind an empty write there; behind an empty write at 2^31 - 1, which gives no size).
 abbrev pub appends : List Case
 appends =
     given 500 (write (bytesAt (back 1) (65 ∷ 66 ∷ []) ∷ []) ∷ [])

@@ -1,5 +1,5 @@
--- Offsets in whole numbers, the positions that a request's offsets name, and what is claimed of them (docs/RULES.md, T1,
--- D10). Proved in proofs/Offsets.antt.
+-- Offsets in whole numbers, the positions that a request's offsets name, and what is claimed of them (docs/RULES.md,
+-- T1, D10). Proved in proofs/OffsetLaws.antt and proofs/Offsets.antt.
 use Prim.Native.Nat.{ℕ}
 use mathlib.Core.Path.{_≡_}
 use mathlib.Core.Bool.{true, false}

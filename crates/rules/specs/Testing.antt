@@ -11,8 +11,9 @@ use Rattle.octets.specs.Strings.{order, join}
 use Rattle.rules.specs.Requests.{Test, Read}
 use Rattle.octets.specs.Lists.{isSome, orElse}
 
--- How an offset is resolved on data of a size. One that is not negative is a position. Of -(k + 1) it is the k-th before
--- the end, so that -1 names the end; one that reaches before byte 0 names none, and row 4 refuses it (T1).
+-- How an offset is resolved on data of a size. One that is not negative is a position. -(k + 1) names the position k
+-- bytes before the end, so that -1 names the end; where that would be before byte 0 there is none, and row 4 applies
+-- (T1).
 unfoldable pub resolve : ℤ → ℕ → Option ℕ
 resolve (pos n) size = some n
 resolve (negsuc k) size = cond (leb k size) (some (size - k)) none
