@@ -18,7 +18,7 @@ enum beamsatchel_outcome {
     BEAMSATCHEL_BUFFER_LENGTH = 1,
     BEAMSATCHEL_NOT_WELL_FORMED = 2,
     BEAMSATCHEL_REQUEST_FORMAT = 3,
-    BEAMSATCHEL_NEGATIVE_OFFSET = 4,
+    BEAMSATCHEL_OFFSET_BEFORE_START = 4,
     BEAMSATCHEL_ENABLER_DIFFERS = 5,
     BEAMSATCHEL_REPLY_SPACE = 7,
     BEAMSATCHEL_TEST_FALSE = 8,
@@ -45,6 +45,9 @@ enum {
     BEAMSATCHEL_CONTAINER_MAX = 16777216,
     BEAMSATCHEL_REQUEST_MAX = 65536
 };
+
+/* The offset that names the end of the data, for appends. The last byte is at BEAMSATCHEL_OFFSET_END - 1. */
+enum { BEAMSATCHEL_OFFSET_END = -1 };
 
 /* Bytes of a share before its first part. */
 enum { BEAMSATCHEL_SHARE_HEADER = 107 };
