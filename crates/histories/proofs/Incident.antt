@@ -4,7 +4,7 @@ use mathlib.Core.Path.{_≡_, refl, sym, ap, _∙_}
 use mathlib.Core.Bool.{Bool, true, false, cond}
 use mathlib.Core.List.{List, [], _∷_, _++_, append-assoc, append-nil}
 use mathlib.Core.Option.{Option, none, some}
-use Prim.Native.Nat.{ℕ, _+_, _≤_, _<_}
+use Prim.Native.Nat.{ℕ, _+_, _-_, _≤_, _<_}
 use lib.ListN.{length, getD, drop}
 use lib.Seq.{getD-take, getD-drop}
 use lib.Dec.{leb}
@@ -29,7 +29,7 @@ use Rattle.histories.specs.Accepted.{took, accepted}
 use Rattle.histories.specs.Incident.{Cuts, laterChanges, Untouched, middle, end, Forgets, Appends, ForgetsAppend}
 use Rattle.histories.specs.Incident.{Incident, IncidentInUse}
 use Rattle.histories.proofs.Demand3.{size-final, each-final}
-use Rattle.octets.proofs.ListLaws.{lastSaid-append, newer-assoc}
+use Rattle.octets.proofs.ListLaws.{lastSaid-append, newer-assoc, at-app-right}
 
 -- ---- what was said before a cut is forgotten
 zero-under : (x y : Option ℕ) (z : ℕ) → orElse (newer (newer y (some 0)) x) z ≡ orElse x 0
@@ -51,6 +51,10 @@ sizeAfter-append : (a b : List Change) (n : ℕ) → sizeAfter (a ++ b) n ≡ si
 unfolding sizeAfter
 sizeAfter-append [] b n = refl
 sizeAfter-append (o ∷ a) b n = sizeAfter-append a b (sizeBy o n)
+
+size-cut : (a : List Change) (m n : ℕ) → sizeAfter (a ++ (cutAt m ∷ [])) n ≤ m
+unfolding sizeAfter sizeBy
+size-cut a m n = rw (sizeAfter-append a (cutAt m ∷ []) n) (omega arith)
 
 -- the accepted changes of the calls h on container bytes c, whose data has n bytes
 abbrev pub changes : List Call → List ℕ → ℕ → List Change
@@ -136,11 +140,17 @@ module _ (p : Parts) (v : Valid p) (before : List Call) (x : Call) (after : List
       let e : List ℕ = dataOf (end c before x after) in
       rw r (getD-take n (drop p e) j 0 h ∙ getD-drop p e j 0 ∙ incident-byte (p + j) g)
 
+  incident-short : length (dataOf (middle c before x)) ≤ m
+  incident-short =
+      let a = accepted-cut before x c (length d) m cuts in
+      rw (size-final (before ++ (x ∷ [])) p v d refl, a .1) (size-cut (a .0) m (length d))
+
   forgets : Forgets c before x after m
   unfolding since
   forgets = record {
     bytes = incident-byte;
     reads = incident-read;
+    short = incident-short;
     zeros = λ i h u. incident-byte i h ∙ untouched-zero since i u;
   }
 
@@ -158,26 +168,36 @@ append-leaves y c bs a =
     (a .done)
     ∙ ap (λ (l : List ℕ). dataOf c ++ l) (sym (a .bytes))
 
-size-cut : (a : List Change) (m n : ℕ) → sizeAfter (a ++ (cutAt m ∷ [])) n ≤ m
-unfolding sizeAfter sizeBy
-size-cut a m n = rw (sizeAfter-append a (cutAt m ∷ []) n) (omega arith)
-
 module _ (p : Parts) (v : Valid p) (before : List Call) (x : Call) (after : List Call) (y : Call) (m : ℕ) (bs : List ℕ)
     (cuts : Cuts x (final leaves before (encode p)) m) (adds : Appends y (end (encode p) before x after) bs) where
-  forgets-append : ForgetsAppend (encode p) before x after y m bs
+  abbrev h : List Call
+  h = before ++ (x ∷ [])
+
+  behind : dataOf (end (encode p) before x (after ++ (y ∷ []))) ≡ dataOf (end (encode p) before x after) ++ bs
   unfolding final
-  forgets-append =
-      let h : List Call = before ++ (x ∷ []) in
-      let n : ℕ = length (p .bytes) in
-      let a = accepted-cut before x (encode p) n m cuts in
-      record {
-        behind =
-            ap (λ (l : List Call). dataOf (final leaves l (encode p))) (sym (append-assoc h after (y ∷ [])))
-            ∙ ap dataOf (final-append (h ++ after) (y ∷ []) (encode p))
-            ∙ append-leaves y (end (encode p) before x after) bs adds;
-        short = rw (size-final h p v (p .bytes) refl, a .1) (size-cut (a .0) m n);
-        forgets = forgets p v before x (after ++ (y ∷ [])) m cuts;
-      }
+  behind =
+      ap (λ (l : List Call). dataOf (final leaves l (encode p))) (sym (append-assoc h after (y ∷ [])))
+      ∙ ap dataOf (final-append (h ++ after) (y ∷ []) (encode p))
+      ∙ append-leaves y (end (encode p) before x after) bs adds
+
+  at-cut : after ≡ [] → length (dataOf (middle (encode p) before x)) ≡ m → (j : ℕ) →
+      getD (dataOf (end (encode p) before x (after ++ (y ∷ [])))) (m + j) 0 ≡ getD bs j 0
+  at-cut e n j =
+      let d : List ℕ = dataOf (middle (encode p) before x) in
+      let f : dataOf (end (encode p) before x after) ≡ d =
+      ap (λ (l : List Call). dataOf (final leaves (h ++ l) (encode p))) e
+      ∙ ap (λ (l : List Call). dataOf (final leaves l (encode p))) (append-nil h) in
+      let k : m + j - length d ≡ j = omega (arith, n) in
+      ap (λ (l : List ℕ). getD l (m + j) 0) (behind ∙ ap (λ (l : List ℕ). l ++ bs) f)
+      ∙ at-app-right d bs (m + j) (omega (arith, n))
+      ∙ ap (λ (i : ℕ). getD bs i 0) k
+
+  forgets-append : ForgetsAppend (encode p) before x after y m bs
+  forgets-append = record {
+    behind = behind;
+    at-cut = at-cut;
+    forgets = forgets p v before x (after ++ (y ∷ [])) m cuts;
+  }
 
 -- THE INCIDENT cannot happen again
 pub incident : (b node enabler : List ℕ) → Incident b node enabler

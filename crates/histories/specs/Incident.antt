@@ -50,6 +50,8 @@ pub record Forgets (c : List ℕ) (before : List Call) (x : Call) (after : List 
   pub reads : (o : ℤ) (p n j : ℕ) → resolve o (length (dataOf (end c before x after))) ≡ some p → j < n → m ≤ p + j →
       getD (piece (dataOf (end c before x after)) o n) j 0
       ≡ byteAfter (laterChanges after (middle c before x)) (p + j)
+  -- right after x there are at most m bytes
+  pub short : length (dataOf (middle c before x)) ≤ m
   -- a place that none of those calls wrote holds zero
   pub zeros : (i : ℕ) → m ≤ i → Each (Untouched i) (laterChanges after (middle c before x)) →
       getD (dataOf (end c before x after)) i 0 ≡ 0
@@ -65,14 +67,15 @@ pub record Appends (y : Call) (c bs : List ℕ) : Type 0 where
   pub bytes : bs ≡ join (map (λ w. w .bytes) writes)
   pub done : hears y c .answer .number ≡ 0
 
--- In the end, after a call y that appends bs, nothing from before x shows at or above place m either (D4).
+-- In the end, after a call y that appends bs (D4).
 pub record ForgetsAppend (c : List ℕ) (before : List Call) (x : Call) (after : List Call) (y : Call) (m : ℕ)
     (bs : List ℕ) : Type 0 where
   -- the data is what it was before y, with bs behind it and no byte between
   pub behind : dataOf (end c before x (after ++ (y ∷ []))) ≡ dataOf (end c before x after) ++ bs
-  -- right after x it has at most m bytes, so that bytes which are then appended begin at or below m
-  pub short : length (dataOf (middle c before x)) ≤ m
-  -- and what stands at or above m is what the calls after x put there, y among them, otherwise zero
+  -- where nothing came between x and y, and x left m bytes, bs stands at m
+  pub at-cut : after ≡ [] → length (dataOf (middle c before x)) ≡ m → (j : ℕ) →
+      getD (dataOf (end c before x (after ++ (y ∷ [])))) (m + j) 0 ≡ getD bs j 0
+  -- nothing from before x shows at or above m: there is what the calls after x put there, y among them, otherwise zero
   pub forgets : Forgets c before x (after ++ (y ∷ [])) m
 
 -- The incident cannot happen again: in every history from a fresh container, whatever comes before an accepted cut to m

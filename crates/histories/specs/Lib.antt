@@ -1,4 +1,4 @@
--- Histories of requests on one container (docs/RULES.md, H1 to H13).
+-- Histories of requests on one container (docs/RULES.md, H1 to H15).
 pub mod Runs
 pub mod Accepted
 pub mod Claims

@@ -55,7 +55,7 @@ module _ (c q : List ℕ) (n : ℕ) (w : wellFormed c ≡ true) (k : List ℕ) (
         formed = w;
         format = f;
         test-offsets = all-named (λ (t : Test). t .offset) ts s (o .0);
-        write-offsets = writes-named ws s (o .1);
+        write-offsets = writes-named ws (dataOf c) (o .1);
         matches = same-eq k (enablerOf c) (not-false _ (b .0));
         reply-fits = ltb-false _ _ (d .0);
         all-hold = every-each (holds (dataOf c)) ts (not-false _ (g .0));
@@ -70,7 +70,7 @@ accepts-rows c q n a =
     let s : ℕ = length (dataOf c) in
     let t : every (λ t. resolves (t .offset) s) (a .tests) ≡ true =
     named-all (λ (t : Test). t .offset) (a .tests) s (a .test-offsets) in
-    let w : writesResolve (a .writes) s ≡ true = named-writes (a .writes) s (a .write-offsets) in
+    let w : writesResolve (a .writes) s ≡ true = named-writes (a .writes) (dataOf c) (a .write-offsets) in
     let e : same (a .enabler) (enablerOf c) ≡ true = rw (a .matches) (same-refl (enablerOf c)) in
     let h : every (holds (dataOf c)) (a .tests) ≡ true = each-every (holds (dataOf c)) (a .tests) (a .all-hold) in
     let u : used (withBytes (partsOf c) (rewritten (a .writes) (a .cut) (dataOf c))) ≤ length c =

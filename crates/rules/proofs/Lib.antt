@@ -1,6 +1,6 @@
 -- Laws of the rules, and the proofs of what is claimed of them.
-pub mod OffsetLaws
 pub mod WriteLaws
+pub mod OffsetLaws
 pub mod ChangeLaws
 pub mod LeaseLaws
 pub mod Kept

@@ -27,6 +27,7 @@ use Rattle.rules.specs.Outcomes.{withBytes, after, afterOf, rows, admitR
 use Rattle.rules.specs.Outcomes.{outcome, answered, containerAfter}
 use Rattle.rules.specs.Offsets.{writePositions, positionsOf, OffsetsResolve}
 use Rattle.rules.proofs.WriteLaws.{length-write}
+use Rattle.rules.proofs.OffsetLaws.{some-is, end-position, write-end}
 use Rattle.rules.proofs.OutcomeLaws.{outcome-formed, answered-number}
 use Rattle.rules.proofs.ReplyLaws.{done-replies}
 use Rattle.rules.proofs.Demand1.{replied-formed, done-valid, done-container}
@@ -99,20 +100,26 @@ placed-positions (w ∷ ws) n e =
     let b = both (resolves (w .offset) n) _ e in
     ap₂ _∷_ (position-is (w .offset) n (b .0)) (placed-positions ws _ (b .1))
 
+-- places and bytes determine writes
+same-placed : (ps qs : List Placed) → map (λ p. some (p .at)) ps ≡ map (λ p. some (p .at)) qs →
+    map (λ p. p .bytes) ps ≡ map (λ p. p .bytes) qs → ps ≡ qs
+same-placed [] [] e f = refl
+same-placed [] (q ∷ qs) e f = absurd (let z : _≡_ {A = ℕ} 0 1 = cc in omega arith)
+same-placed (p ∷ ps) [] e f = absurd (let z : _≡_ {A = ℕ} 0 1 = cc in omega arith)
+same-placed (p ∷ ps) (q ∷ qs) e f =
+    let a : some (p .at) ≡ some (q .at) = cc in
+    let b : p .bytes ≡ q .bytes = cc in
+    let g : map (λ x. some (x .at)) ps ≡ map (λ x. some (x .at)) qs = cc in
+    let h : map (λ x. x .bytes) ps ≡ map (λ x. x .bytes) qs = cc in
+    let at : p .at ≡ q .at = some-is (p .at) (q .at) a in
+    ap₂ _∷_ (λ i. record { at = at i; bytes = b i }) (same-placed ps qs g h)
+
+placed-bytes : (ws : List Write) (n : ℕ) → map (λ p. p .bytes) (placed ws n) ≡ map (λ w. w .bytes) ws
+unfolding placed
+placed-bytes [] n = refl
+placed-bytes (w ∷ ws) n = ap (λ (l : List (List ℕ)). w .bytes ∷ l) (placed-bytes ws _)
+
 -- ---- writes at the end
-end-position : (n : ℕ) → position (negsuc 0) n ≡ n
-unfolding position resolve orElse
-end-position n = rw (le-leb 0 n (omega arith)) (omega arith)
-
-write-end : (d bs : List ℕ) → writeAt d (length d) bs ≡ d ++ bs
-unfolding writeAt padTo
-write-end d [] = sym (append-nil d)
-write-end d (b ∷ bs) =
-    let z : length d - length d ≡ 0 = omega arith in
-    let e : drop (length d + suc (length bs)) d ≡ [] =
-    drop-of-length-le d {i = length d + suc (length bs)} (omega arith) in
-    rw (z, e, append-nil d, take-all (length d) d (omega arith)) (append-nil (d ++ (b ∷ bs)))
-
 write-ends : (ws : List Write) (d : List ℕ) → Each (λ w. w .offset ≡ negsuc 0) ws →
     writeAll (placed ws (length d)) d ≡ d ++ join (map (λ w. w .bytes) ws)
 unfolding placed writeAll join
@@ -164,6 +171,11 @@ offsets-resolve c q r = record {
       let x = formed-fours b q s v in
       let y = formed-fours c q r w in
       ((λ a. y .1 (rw e at (x .0 a))), (λ a. x .1 (rw e (y .0 a))));
-  written = λ k ts ws cut f e. placed-positions ws (length (dataOf c)) (done-resolves c q r k ts ws cut f e);
+  written = λ k ts ws cut f e ps g h.
+      let n : ℕ = length (dataOf c) in
+      let p : ps ≡ placed ws n =
+      same-placed ps (placed ws n) (g ∙ sym (placed-positions ws n (done-resolves c q r k ts ws cut f e)))
+      (h ∙ sym (placed-bytes ws n)) in
+      done-bytes c q r k ts ws cut f e ∙ ap (λ (l : List Placed). cutTo cut (writeAll l (dataOf c))) (sym p);
   appended = λ k ts ws f h e. done-bytes c q r k ts ws none f e ∙ write-ends ws (dataOf c) h;
 }

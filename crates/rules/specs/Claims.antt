@@ -99,9 +99,9 @@ pub record Accepts (c q : List ℕ) (n : ℕ) : Type 0 where
   -- container and request are well formed
   pub formed : wellFormed c ≡ true
   pub format : requestOf q ≡ some (testWrite enabler tests writes cut)
-  -- no offset reaches before byte 0: a test's on the data as it is, a write's on the size that those before it give
+  -- no offset reaches before byte 0: a test's on the data as it is, a write's on the data that those before it leave
   pub test-offsets : Each (λ t. NotBefore (t .offset) (length (dataOf c))) tests
-  pub write-offsets : WritesNotBefore writes (length (dataOf c))
+  pub write-offsets : WritesNotBefore writes (dataOf c)
   -- the write enabler matches
   pub matches : enabler ≡ enablerOf c
   -- the reply fits

@@ -211,7 +211,7 @@ letters = 65 ∷ 66 ∷ 67 ∷ 68 ∷ 69 ∷ []
 abbrev pub lettered : List ℕ
 lettered = spare 500 letters 0
 
--- A read or a test on it, beside a reply space of so many bytes 9.
+-- A read or a test-and-write on it, beside a reply space of so many bytes 9.
 pub record Look : Type 0 where
   pub request : List ℕ
   pub space : ℕ
@@ -562,9 +562,10 @@ longResults bs =
 
 -- The table of offsets from the end on ABCDE: P39 (a read at the end; of ten bytes across the end from its fourth last
 -- byte; from byte 0; from before it, and of no bytes; at the lowest offset; a test at the end of no bytes, and of five;
--- from byte 0; from before it; from byte 0 beside a write at the end), P44 (an offset before byte 0 beside another
--- enabler; beside too little space; beside a false test; beside too little room, where byte 0 itself gives 11; in a
--- request that breaks its format; one that reaches byte 0 only on the size that the write before it gives).
+-- from byte 0; from before it; from byte 0 beside a write at the end; from before it beside such a write), P44 (an
+-- offset before byte 0 beside another enabler; beside too little space; beside a false test; beside too little room,
+-- where byte 0 itself gives 11; in a request that breaks its format; one that reaches byte 0 only on the size that the
+-- write before it gives).
 abbrev pub fromEnd : List Look
 fromEnd =
     look (back 1) 10 6
@@ -578,6 +579,7 @@ fromEnd =
     ∷ tried (check (back 6) 5 3 letters ∷ []) [] 9
     ∷ tried (check (back 7) 0 3 [] ∷ []) [] 4
     ∷ tried (check (back 6) 5 3 letters ∷ []) (bytesAt (back 1) (88 ∷ []) ∷ []) 9
+    ∷ tried (check (back 7) 0 3 [] ∷ []) (bytesAt (back 1) (88 ∷ []) ∷ []) 4
     ∷ record { request = put secretAt (replicate 32 1) (write (bytesAt (back 7) (88 ∷ []) ∷ [])); space = 4 }
     ∷ tried (check (back 7) 5 3 letters ∷ []) [] 0
     ∷ tried (check 0 1 3 [] ∷ []) (bytesAt (back 7) (88 ∷ []) ∷ []) 5
@@ -601,6 +603,7 @@ fromEndSeen =
     ∷ shows 0 9 (0 ∷ 0 ∷ 0 ∷ 5 ∷ letters)
     ∷ shows 4 0 (replicate 4 9)
     ∷ shows 0 9 (0 ∷ 0 ∷ 0 ∷ 5 ∷ letters)
+    ∷ shows 4 0 (replicate 4 9)
     ∷ shows 4 0 (replicate 4 9)
     ∷ shows 4 0 []
     ∷ shows 4 0 (replicate 5 9)

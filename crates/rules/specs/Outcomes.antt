@@ -55,7 +55,7 @@ replyTo p (renew t x) = []
 replyTo p (cancel t) = []
 replyTo p (read rs) = replyOf (map (readPiece (p .bytes)) rs)
 
--- Rows 4 and 5, for each kind those that it can meet: some offset is negative, the write enabler differs (O4, O5).
+-- Rows 4 and 5, for each kind those that it can meet: an offset before byte 0, another write enabler (O4, O5).
 unfoldable pub admitRows : Parts → Request → List Row
 admitRows p (testWrite k ts ws cut) =
     row 4 (not (every (λ t. resolves (t .offset) (length (p .bytes))) ts && writesResolve ws (length (p .bytes))))
