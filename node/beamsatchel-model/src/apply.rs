@@ -4,9 +4,11 @@
 //! the first that applies.
 
 use super::container::used;
+use super::offsets::{grow, place, resolve};
 use super::request::{Read, Request, Test, TestAndWrite, Write};
 use super::{Answer, Container, Lease, LENGTHS};
 use std::cmp::Ordering;
+use std::ops::Range;
 
 /// Applies a request. Only a done one changes the container; only a done one or one with a false
 /// test writes a reply.
@@ -37,22 +39,20 @@ pub fn apply(buffer: &mut [u8], request: &[u8], reply: &mut [u8]) -> Answer {
 }
 
 fn test_and_write(container: &mut Container, request: &TestAndWrite, reply: &mut [u8]) -> Answer {
-    // 4: a negative offset, also in an entry that would do nothing.
-    let negative_test = request.tests.iter().any(|test| test.offset < 0);
-    let negative_write = request.writes.iter().any(|write| write.offset < 0);
-    if negative_test || negative_write {
+    // 4: an offset before the start of the data, also in an entry that would do nothing. Tests are made before any
+    // write; each write meets what those before it give.
+    let size = container.data.len() as u64;
+    let looks = request.tests.iter().map(|test| (test.offset, test.length));
+    let (Some(pieces), Some(places)) =
+        (pieces(&container.data, looks), place(&request.writes, size))
+    else {
         return Answer::refused(4);
-    }
+    };
     // 5: another write enabler; the answer names the node that accepted the right one.
     if request.enabler != container.enabler {
         return Answer::enabler_differs(container.node);
     }
     // 7: no space for the reply, which has the pieces as they are before any write.
-    let pieces: Vec<&[u8]> = request
-        .tests
-        .iter()
-        .map(|test| piece(&container.data, test.offset, test.length))
-        .collect();
     let answered = reply_of(&pieces);
     if reply.len() < answered.len() {
         return Answer::refused(7);
@@ -68,23 +68,32 @@ fn test_and_write(container: &mut Container, request: &TestAndWrite, reply: &mut
         return Answer::test_false(answered.len());
     }
     // The count stays where it is, unless the final data reaches past it; sizes on the way there do not count.
-    let size = final_size(container.data.len() as u64, &request.writes, request.cut);
+    let size = final_size(size, &places, request.cut);
     let count = container.count().max(468 + size);
     // 11: no room for that.
     if used(count, container.extras()) > container.length as u64 {
         return Answer::refused(11);
     }
-    container.data = written(&container.data, &request.writes, size as usize);
+    container.data = written(&container.data, &request.writes, &places, size as usize);
     container.slack = (count - 468 - size) as usize;
     reply[..answered.len()].copy_from_slice(&answered);
     Answer::done(answered.len())
 }
 
-/// Tests and reads: as much of the data from the offset on as there is, up to the length; nothing past the
-/// end. The offset is not negative.
-fn piece(data: &[u8], offset: i32, length: u32) -> &[u8] {
-    let start = data.len().min(offset as usize);
-    let end = data.len().min(offset as usize + length as usize);
+/// Tests and reads: the piece for each offset and length; `None` where an offset reaches before the start.
+fn pieces(data: &[u8], looks: impl Iterator<Item = (i32, u32)>) -> Option<Vec<&[u8]>> {
+    looks
+        .map(|(offset, length)| {
+            let position = resolve(offset, data.len() as u64)? as usize;
+            Some(piece(data, position, length as usize))
+        })
+        .collect()
+}
+
+/// Tests and reads: as much of the data from the position on as there is, up to the length; nothing past the end.
+fn piece(data: &[u8], position: usize, length: usize) -> &[u8] {
+    let start = data.len().min(position);
+    let end = data.len().min(position + length);
     &data[start..end]
 }
 
@@ -112,13 +121,8 @@ fn reply_of(pieces: &[&[u8]]) -> Vec<u8> {
 }
 
 /// Writing: the data size after the writes and the cut.
-fn final_size(size: u64, writes: &[Write], cut: Option<u32>) -> u64 {
-    // A write makes the data reach at least to its end; an empty one has none.
-    let grown = writes
-        .iter()
-        .filter(|write| !write.data.is_empty())
-        .map(|write| write.offset as u64 + write.data.len() as u64)
-        .fold(size, u64::max);
+fn final_size(size: u64, places: &[Range<u64>], cut: Option<u32>) -> u64 {
+    let grown = places.iter().fold(size, grow);
     // The cut comes after all writes, and makes nothing longer.
     cut.map_or(grown, |new_length| grown.min(u64::from(new_length)))
 }
@@ -126,11 +130,11 @@ fn final_size(size: u64, writes: &[Write], cut: Option<u32>) -> u64 {
 /// Writing: the data after the writes, one after the other, and the cut to `size`; what was not
 /// written is zero. Bytes beyond the final size are not kept on the way, since a write may reach
 /// 2 GiB before the cut.
-fn written(data: &[u8], writes: &[Write], size: usize) -> Vec<u8> {
+fn written(data: &[u8], writes: &[Write], places: &[Range<u64>], size: usize) -> Vec<u8> {
     let mut after = data.to_vec();
     after.resize(size, 0);
-    for write in writes {
-        for (position, byte) in (write.offset as usize..size).zip(&write.data) {
+    for (write, place) in writes.iter().zip(places) {
+        for (position, byte) in (place.start as usize..size).zip(&write.data) {
             after[position] = *byte;
         }
     }
@@ -202,15 +206,12 @@ fn keep_later(lease: &mut Lease, expiry: u32) {
 }
 
 fn read(container: &Container, reads: &[Read], reply: &mut [u8]) -> Answer {
-    // 4: a negative offset.
-    if reads.iter().any(|read| read.offset < 0) {
+    // 4: an offset before the start of the data.
+    let looks = reads.iter().map(|read| (read.offset, read.length));
+    let Some(pieces) = pieces(&container.data, looks) else {
         return Answer::refused(4);
-    }
+    };
     // 7: no space for the reply.
-    let pieces: Vec<&[u8]> = reads
-        .iter()
-        .map(|read| piece(&container.data, read.offset, read.length))
-        .collect();
     let answered = reply_of(&pieces);
     if reply.len() < answered.len() {
         return Answer::refused(7);

@@ -12,6 +12,7 @@ mod container;
 mod create;
 pub mod fast;
 mod new_share;
+mod offsets;
 mod request;
 mod share;
 
@@ -20,5 +21,6 @@ pub use apply::apply;
 pub use container::{Container, Lease, LENGTHS, MAGIC};
 pub use create::create;
 pub use new_share::{write_share, NewShare, WrittenShare};
+pub use offsets::{grow, place, resolve};
 pub use request::{Read, Request, Test, TestAndWrite, Write, LONGEST_REQUEST};
 pub use share::{check_container, check_share, Share};

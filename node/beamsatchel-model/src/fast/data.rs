@@ -9,21 +9,25 @@ const HEADER: usize = 40;
 const TEST: usize = 12;
 const WRITE: usize = 8;
 const READ: usize = 8;
+/// Why no entry that is done reaches before the start.
+const JUDGED: &str = "such a request is refused with 4";
 
 pub fn test_and_write(buffer: &mut [u8], frame: Frame, request: &[u8], reply: &mut [u8]) -> Answer {
     let Some(parts) = Parts::find(request) else {
         return Answer::refused(3);
     };
-    if parts.negative {
+    let data = frame.data(buffer);
+    let (Some(reply_length), Some((final_size, last_gap))) = (
+        reply_length(data, parts.tests, TEST),
+        parts.final_size(frame.size),
+    ) else {
         return Answer::refused(4);
-    }
+    };
     if request[8..40] != buffer[52..84] {
         let mut node = [0; 20];
         node.copy_from_slice(&buffer[32..52]);
         return Answer::enabler_differs(node);
     }
-    let data = frame.data(buffer);
-    let reply_length = reply_length(data, parts.tests, TEST);
     if reply.len() < reply_length {
         return Answer::refused(7);
     }
@@ -31,7 +35,6 @@ pub fn test_and_write(buffer: &mut [u8], frame: Frame, request: &[u8], reply: &m
         write_reply(data, parts.tests, TEST, reply);
         return Answer::test_false(reply_length);
     }
-    let (final_size, last_gap) = parts.final_size(frame.size);
     let size = match final_size {
         size if size > buffer.len() as u64 => return Answer::refused(11),
         size => size as usize,
@@ -49,7 +52,7 @@ pub fn test_and_write(buffer: &mut [u8], frame: Frame, request: &[u8], reply: &m
         let bare = last_gap.min(final_size) as usize;
         move_count(buffer, frame, after, bare);
     }
-    parts.write(&mut buffer[468..468 + size]);
+    parts.write(frame.size, &mut buffer[468..468 + size]);
     if size < frame.size {
         buffer[468 + size..468 + frame.size].fill(0);
     }
@@ -78,11 +81,10 @@ pub fn read(buffer: &[u8], frame: Frame, request: &[u8], reply: &mut [u8]) -> An
         return Answer::refused(3);
     }
     let reads = &request[4..];
-    if reads.chunks_exact(READ).any(is_negative) {
-        return Answer::refused(4);
-    }
     let data = frame.data(buffer);
-    let reply_length = reply_length(data, reads, READ);
+    let Some(reply_length) = reply_length(data, reads, READ) else {
+        return Answer::refused(4);
+    };
     if reply.len() < reply_length {
         return Answer::refused(7);
     }
@@ -97,8 +99,6 @@ struct Parts<'a> {
     writes: &'a [u8],
     specimens: &'a [u8],
     data: &'a [u8],
-    /// Some offset is negative.
-    negative: bool,
 }
 
 impl<'a> Parts<'a> {
@@ -114,18 +114,15 @@ impl<'a> Parts<'a> {
         };
         let (tests, rest) = request[HEADER..].split_at_checked(TEST * usize::from(request[1]))?;
         let (writes, bodies) = rest.split_at_checked(WRITE * usize::from(request[2]))?;
-        let mut negative = false;
         let mut specimen_length = 0;
         for test in tests.chunks_exact(TEST) {
             if !(1..=6).contains(&test[8]) || test[9] != 0 {
                 return None;
             }
-            negative |= is_negative(test);
             specimen_length += specimen_length_of(test);
         }
         let mut data_length = 0;
         for write in writes.chunks_exact(WRITE) {
-            negative |= is_negative(write);
             data_length += u64::from(u32_at(write, 4));
         }
         let (specimens, data) = bodies.split_at_checked(specimen_length)?;
@@ -135,7 +132,6 @@ impl<'a> Parts<'a> {
             writes,
             specimens,
             data,
-            negative,
         })
     }
 
@@ -144,7 +140,7 @@ impl<'a> Parts<'a> {
         self.tests.chunks_exact(TEST).all(|test| {
             let (specimen, rest) = specimens.split_at(specimen_length_of(test));
             specimens = rest;
-            let comparison = piece(data, test).cmp(specimen);
+            let comparison = piece(data, test).expect(JUDGED).cmp(specimen);
             match test[8] {
                 1 => comparison == Ordering::Less,
                 2 => comparison != Ordering::Greater,
@@ -157,30 +153,31 @@ impl<'a> Parts<'a> {
     }
 
     /// The final size, and where the last gap ends that the writes leave on the way; behind it they
-    /// fill all that they add.
-    fn final_size(&self, size: usize) -> (u64, u64) {
+    /// fill all that they add. `None` where one reaches before the start of the data.
+    fn final_size(&self, size: usize) -> Option<(u64, u64)> {
         let mut grown = size as u64;
         let mut last_gap = grown;
         for write in self.writes.chunks_exact(WRITE) {
-            let (offset, length) = (u64::from(u32_at(write, 0)), u64::from(u32_at(write, 4)));
-            if length > 0 {
-                if grown < offset {
-                    last_gap = offset;
-                }
-                grown = grown.max(offset + length);
+            let (start, length) = (position(write, grown)?, u64::from(u32_at(write, 4)));
+            if length > 0 && grown < start {
+                last_gap = start;
             }
+            grown = grow(grown, start, length);
         }
         let final_size = self.cut.map_or(grown, |cut| grown.min(u64::from(cut)));
-        (final_size, last_gap)
+        Some((final_size, last_gap))
     }
 
-    /// Makes the writes as far as they lie below the final size.
-    fn write(&self, data: &mut [u8]) {
+    /// Makes the writes as far as they lie below the final size, in data that had another size before.
+    fn write(&self, size_before: usize, data: &mut [u8]) {
+        let mut grown = size_before as u64;
         let mut bodies = self.data;
         for write in self.writes.chunks_exact(WRITE) {
             let (body, rest) = bodies.split_at(u32_at(write, 4) as usize);
             bodies = rest;
-            if let Some(target) = data.get_mut(u32_at(write, 0) as usize..) {
+            let start = position(write, grown).expect(JUDGED);
+            grown = grow(grown, start, body.len() as u64);
+            if let Some(target) = data.get_mut(start as usize..) {
                 let kept = target.len().min(body.len());
                 target[..kept].copy_from_slice(&body[..kept]);
             }
@@ -188,31 +185,48 @@ impl<'a> Parts<'a> {
     }
 }
 
-/// Every entry of a table begins with its signed offset and its length.
-fn is_negative(entry: &[u8]) -> bool {
-    entry[0] & 0x80 != 0
+/// The position that an entry names in data of this size; `None` where it reaches before the start. Every entry of a
+/// table begins with its signed offset and its length.
+fn position(entry: &[u8], size: u64) -> Option<u64> {
+    let offset = u32_at(entry, 0);
+    match offset as i32 {
+        0.. => Some(u64::from(offset)),
+        // -1 is the end, and each step down from it a byte before.
+        _ => size.checked_sub(u64::from(!offset)),
+    }
+}
+
+/// The size after a write of so many bytes there.
+fn grow(size: u64, start: u64, length: u64) -> u64 {
+    match length {
+        0 => size,
+        _ => size.max(start + length),
+    }
 }
 
 fn specimen_length_of(test: &[u8]) -> usize {
     usize::from(u16::from_be_bytes([test[10], test[11]]))
 }
 
-fn piece<'a>(data: &'a [u8], entry: &[u8]) -> &'a [u8] {
-    let rest = data.get(u32_at(entry, 0) as usize..).unwrap_or(&[]);
-    &rest[..rest.len().min(u32_at(entry, 4) as usize)]
+/// What an entry looks at; `None` where it reaches before the start.
+fn piece<'a>(data: &'a [u8], entry: &[u8]) -> Option<&'a [u8]> {
+    let start = position(entry, data.len() as u64)?;
+    let rest = data.get(start as usize..).unwrap_or(&[]);
+    Some(&rest[..rest.len().min(u32_at(entry, 4) as usize)])
 }
 
-fn reply_length(data: &[u8], table: &[u8], entry: usize) -> usize {
+/// The length of the reply to a table; `None` where an entry reaches before the start.
+fn reply_length(data: &[u8], table: &[u8], entry: usize) -> Option<usize> {
     table
         .chunks_exact(entry)
-        .map(|entry| 4 + piece(data, entry).len())
+        .map(|entry| Some(4 + piece(data, entry)?.len()))
         .sum()
 }
 
 fn write_reply(data: &[u8], table: &[u8], entry: usize, reply: &mut [u8]) {
     let (lengths, mut pieces) = reply.split_at_mut(4 * (table.len() / entry));
     for (length, entry) in lengths.chunks_exact_mut(4).zip(table.chunks_exact(entry)) {
-        let piece = piece(data, entry);
+        let piece = piece(data, entry).expect(JUDGED);
         length.copy_from_slice(&(piece.len() as u32).to_be_bytes());
         let (target, rest) = pieces.split_at_mut(piece.len());
         target.copy_from_slice(piece);
