@@ -235,6 +235,15 @@ pub fn against_each_other(archives: &[PathBuf]) -> Result<(), String> {
     }
     for workload in work::rows() {
         let player = RefCell::new(Player::new(&workload));
+        let mut takes =
+            |library: &Library| player.borrow_mut().takes(&|c, q, r| library.apply(c, q, r));
+        if !libraries.iter().all(&mut takes) {
+            println!(
+                "{:<50} left out, since not every archive takes it",
+                workload.name
+            );
+            continue;
+        }
         let play = |library: &Library| {
             player.borrow_mut().play(&|c, q, r| library.apply(c, q, r));
         };

@@ -3,8 +3,8 @@
 use beamsatchel_model::NewShare;
 use beamsatchel_node::ffi::ShareArguments;
 use beamsatchel_node::{
-    AddLease, CancelLease, CancelToken, Container, Lease, NodeId, Opcode, ReadData, RenewLease,
-    RenewalToken, TestAndWrite, WriteEnabler,
+    AddLease, CancelLease, CancelToken, Container, Lease, NodeId, Offset, Opcode, ReadData,
+    RenewLease, RenewalToken, TestAndWrite, WriteEnabler,
 };
 use std::hint::black_box;
 use std::num::NonZeroU32;
@@ -49,9 +49,8 @@ impl Slot {
         let mut bytes = vec![0; self.length];
         let mut slot = Container::create(&mut bytes[..], NODE, ENABLER).expect("a good length");
         // As many requests as it takes.
-        for start in (0..self.size).step_by(60_000) {
-            let body = vec![b'A'; (self.size - start).min(60_000)];
-            let request = TestAndWrite::new(ENABLER).write(start as i32, &body);
+        for body in vec![b'A'; self.size].chunks(60_000) {
+            let request = TestAndWrite::new(ENABLER).append(body);
             let done = slot.test_and_write(&request.expect("fits"), &mut []);
             assert!(done.expect("room").is_done());
         }
@@ -74,7 +73,7 @@ impl Slot {
     /// A byte at the last place that there is.
     pub fn far_write(&self) -> Vec<u8> {
         let last = Slot::full(self.length).size - 1;
-        checked().write(last as i32, b"F").expect("fits").to_bytes()
+        checked().write(last as u32, b"F").expect("fits").to_bytes()
     }
 
     /// A cut to nothing.
@@ -97,36 +96,45 @@ impl Slot {
         })
     }
 
-    /// Writes 4 KiB that begin before and end after the data's end, and cuts that undo them. The first cut leaves slack,
-    /// into which all later writes go.
+    /// Writes 4 KiB that begin before and end after the data's end, and cuts that undo them. The first cut leaves
+    /// slack, into which all later writes go.
     pub fn growth(&self, past: usize) -> Vec<Vec<u8>> {
-        let offset = (self.size + past - 4096) as i32;
+        let offset = (self.size + past - 4096) as u32;
         let grow = checked().write(offset, &[b'C'; 4096]).expect("fits");
         let cut = checked().cut(self.size as u32);
         vec![grow.to_bytes(), cut.to_bytes()]
     }
 
-    /// As many appends of `count` bytes as there is room for.
+    /// As many appends of `count` bytes as there is room for, each at the position where the one before it ends.
     pub fn appends(&self, count: usize) -> Vec<Vec<u8>> {
+        self.appends_at(count, |end| Offset::FromStart(end as u32))
+    }
+
+    /// The same by requests that do not know the size.
+    pub fn appends_at_end(&self, count: usize) -> Vec<Vec<u8>> {
+        self.appends_at(count, |_| Offset::END)
+    }
+
+    fn appends_at(&self, count: usize, offset: impl Fn(usize) -> Offset) -> Vec<Vec<u8>> {
         let room = Slot::full(self.length).size - self.size;
         let body = vec![b'D'; count];
         let appends = (0..room / count).map(|number| {
-            let offset = (self.size + number * count) as i32;
+            let offset = offset(self.size + number * count);
             checked().write(offset, &body).expect("fits").to_bytes()
         });
         appends.collect()
     }
 
-    /// The same, and the cut that undoes them all. The first one leaves slack, into which all later appends go.
-    pub fn cut_appends(&self, count: usize) -> Vec<Vec<u8>> {
+    /// Such appends, and the cut that undoes them all. The first one leaves slack, into which all later appends go.
+    pub fn then_cut(&self, appends: Vec<Vec<u8>>) -> Vec<Vec<u8>> {
         let cut = checked().cut(self.size as u32).to_bytes();
-        self.appends(count).into_iter().chain([cut]).collect()
+        appends.into_iter().chain([cut]).collect()
     }
 
-    /// One write at the end, and the cut that undoes it, so that every second call is a cut. The first one leaves slack,
-    /// into which all later writes go.
+    /// One write at the end, and the cut that undoes it, so that every second call is a cut. The first one leaves
+    /// slack, into which all later writes go.
     pub fn undone(&self, count: usize) -> Vec<Vec<u8>> {
-        let grow = checked().write(self.size as i32, &vec![b'E'; count]);
+        let grow = checked().write(self.size as u32, &vec![b'E'; count]);
         let cut = checked().cut(self.size as u32);
         vec![grow.expect("fits").to_bytes(), cut.to_bytes()]
     }
@@ -168,7 +176,7 @@ impl Slot {
         })
     }
 
-    fn at_random(&self, count: usize, request: impl Fn(i32) -> Vec<u8>) -> Vec<Vec<u8>> {
+    fn at_random(&self, count: usize, request: impl Fn(u32) -> Vec<u8>) -> Vec<Vec<u8>> {
         let mut state: u64 = 0xBEA5_A7C4;
         (0..REQUESTS)
             .map(|_| {
@@ -177,7 +185,7 @@ impl Slot {
                     .wrapping_mul(6_364_136_223_846_793_005)
                     .wrapping_add(1);
                 let offset = (state >> 33) as usize % (self.size - count + 1);
-                request(offset as i32)
+                request(offset as u32)
             })
             .collect()
     }
@@ -238,9 +246,18 @@ pub fn rows() -> Vec<Workload> {
         row("write 64 bytes at random offsets", slot.writes(64)),
         row(
             "append 64 bytes, 53 times, then cut them",
-            slot.cut_appends(64),
+            slot.then_cut(slot.appends(64)),
+        ),
+        row(
+            "append 64 bytes at -1, then cut them",
+            slot.then_cut(slot.appends_at_end(64)),
         ),
         row("append 64 bytes, 53 times, without slack", slot.appends(64)).put_back(),
+        row(
+            "append 64 bytes at -1, without slack",
+            slot.appends_at_end(64),
+        )
+        .put_back(),
         row(
             "write 3,392 bytes at the end, or cut it",
             slot.undone(53 * 64),
@@ -351,6 +368,11 @@ pub const NEW_SHARES: [(&str, usize); 2] = [
 /// A side: container, request and reply space in, the outcome's number out.
 pub type Apply<'a> = dyn Fn(&mut [u8], &[u8], &mut [u8]) -> u32 + 'a;
 
+/// Done, or with a false test.
+fn is_taken(number: u32) -> bool {
+    matches!(number, 0 | 8)
+}
+
 /// A container, and the requests that are applied to it in turn.
 pub struct Player<'a> {
     pub container: Vec<u8>,
@@ -383,6 +405,13 @@ impl<'a> Player<'a> {
         }
     }
 
+    /// Whether the first request is taken: what follows other rules may refuse it.
+    pub fn takes(&mut self, apply: &Apply) -> bool {
+        self.container.copy_from_slice(&self.made);
+        let request = &self.workload.requests[0];
+        is_taken(apply(&mut self.container, request, &mut self.reply))
+    }
+
     /// Applies the next request, which is done or has a false test. Nothing of `apply` is known
     /// here, so neither side is compiled into its caller.
     pub fn play(&mut self, apply: &Apply) {
@@ -395,7 +424,7 @@ impl<'a> Player<'a> {
         let request = &self.workload.requests[self.next];
         self.next += 1;
         let number = black_box(apply)(&mut self.container, black_box(request), &mut self.reply);
-        assert!(matches!(number, 0 | 8), "outcome {number}");
+        assert!(is_taken(number), "outcome {number}");
     }
 
     /// Puts back what appends change: the fields of size and offset, and all from the data's end on.

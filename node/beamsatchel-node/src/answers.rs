@@ -29,8 +29,8 @@ pub enum Reason {
     NotWellFormed = 2,
     /// 3: the request breaks its format.
     RequestFormat = 3,
-    /// 4: some offset is negative.
-    NegativeOffset = 4,
+    /// 4: some offset reaches before the start of the data; [`Offset`](crate::Offset) tells how they are counted.
+    OffsetBeforeStart = 4,
     /// 5: the write enabler differs.
     EnablerDiffers = 5,
     /// 7: the reply space is shorter than the reply.
@@ -71,7 +71,7 @@ impl Reason {
         Reason::BufferLength,
         Reason::NotWellFormed,
         Reason::RequestFormat,
-        Reason::NegativeOffset,
+        Reason::OffsetBeforeStart,
         Reason::EnablerDiffers,
         Reason::ReplySpace,
         Reason::TestFalse,
@@ -107,7 +107,7 @@ impl Reason {
             Reason::BufferLength => "The container's buffer is not 472 to 16,777,216 bytes long.",
             Reason::NotWellFormed => "The buffer does not hold a well-formed container.",
             Reason::RequestFormat => "The request breaks its format.",
-            Reason::NegativeOffset => "Some offset is negative.",
+            Reason::OffsetBeforeStart => "Some offset reaches before the start of the data.",
             Reason::EnablerDiffers => "The write enabler is not the container's.",
             Reason::ReplySpace => "The reply space is shorter than the reply.",
             Reason::TestFalse => "Some test is false, so nothing was written.",
@@ -265,7 +265,7 @@ impl std::error::Error for Refusal {}
 pub enum Error {
     /// The library refused.
     Refused(Refusal),
-    /// A builder took no more.
+    /// A builder did not take an entry.
     NotBuilt(BuildError),
     /// The library wrote no share.
     ShareNotWritten(NewShareError),

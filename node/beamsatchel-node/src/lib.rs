@@ -4,7 +4,8 @@
 //! `docs/RULES.md`, and the work is done by the proved library behind six C-callable functions; this crate gives them
 //! types. Whatever bytes arrive, every call ends in one of the numbered outcomes: done, or a [`Reason`], or a
 //! [`NewShareError`] where a share was to be written. A refused request changes no byte of the container, and a share
-//! that is not written no byte of the space for it. A slot's data is usually an SDMF share: [`Share`] checks one, and
+//! that is not written no byte of the space for it. Tests, writes and reads begin at an [`Offset`], which counts from
+//! the start of the data or from its end. A slot's data is usually an SDMF share: [`Share`] checks one, and
 //! [`NewShare`] writes one.
 //!
 //! ```
@@ -59,6 +60,7 @@ mod container;
 mod faults;
 pub mod ffi;
 pub mod layout;
+mod offsets;
 mod requests;
 mod secrets;
 mod shares;
@@ -66,6 +68,7 @@ mod shares;
 pub use answers::{Answer, Error, Reason, Refusal, Reply, Written};
 pub use container::{Container, Lease, NodeId, View};
 pub use faults::{Clause, Fault};
+pub use offsets::Offset;
 pub use requests::{AddLease, BuildError, CancelLease, Opcode, ReadData, RenewLease, TestAndWrite};
 pub use secrets::{CancelToken, RenewalToken, WriteEnabler};
 pub use shares::{NewShare, NewShareError, Share};

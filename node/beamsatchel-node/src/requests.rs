@@ -2,6 +2,7 @@
 
 use crate::container::Lease;
 use crate::layout::{MAX_LENGTH, MAX_REQUEST, MIN_LENGTH};
+use crate::offsets::Offset;
 use crate::secrets::{CancelToken, RenewalToken, WriteEnabler};
 use std::fmt;
 
@@ -25,7 +26,7 @@ fn reply_bound(table: &[u8], entry: usize, buffer_len: usize) -> usize {
     lengths.map(|length| 4 + most.min(length)).sum()
 }
 
-/// Why a builder took no more.
+/// Why a builder did not take an entry.
 ///
 /// ```
 /// use beamsatchel_node::{BuildError, ReadData};
@@ -40,6 +41,8 @@ pub enum BuildError {
     TooManyEntries,
     /// A request has at most 65,536 bytes.
     TooLong,
+    /// An offset is at most 2,147,483,647 bytes from the start or the end of the data.
+    OffsetTooFar,
 }
 
 impl fmt::Display for BuildError {
@@ -47,6 +50,9 @@ impl fmt::Display for BuildError {
         f.write_str(match self {
             BuildError::TooManyEntries => "a request has at most 16 entries of a sort",
             BuildError::TooLong => "a request has at most 65,536 bytes",
+            BuildError::OffsetTooFar => {
+                "an offset is at most 2,147,483,647 bytes from the start or the end of the data"
+            }
         })
     }
 }
@@ -115,15 +121,16 @@ impl TestAndWrite {
         }
     }
 
-    /// Adds a test of the data at `offset`, at most `length` bytes and stopping at the end of data. A negative
-    /// offset is well formed; the library answers it with [`NegativeOffset`](crate::Reason::NegativeOffset).
+    /// Adds a test of the data at an [`Offset`], at most `length` bytes and stopping at the end of data. All tests look
+    /// at the data as it is before any write.
     pub fn test(
         mut self,
-        offset: i32,
+        offset: impl Into<Offset>,
         length: u32,
         opcode: Opcode,
         specimen: &[u8],
     ) -> Result<TestAndWrite, BuildError> {
+        let offset = offset.into().field()?;
         self.admit(self.test_count(), TEST, specimen)?;
         let specimen_length = u16::try_from(specimen.len()).expect("shorter than a request");
         self.tests.extend(offset.to_be_bytes());
@@ -134,15 +141,39 @@ impl TestAndWrite {
         Ok(self)
     }
 
-    /// Adds a write. Writes run in order; one past the end of data leaves zeros between. A request has room for
-    /// [`write_room`](TestAndWrite::write_room) bytes more.
-    pub fn write(mut self, offset: i32, data: &[u8]) -> Result<TestAndWrite, BuildError> {
+    /// Adds a write at an [`Offset`]. Writes run in order; one past the end of data leaves zeros between. A request has
+    /// room for [`write_room`](TestAndWrite::write_room) bytes more.
+    pub fn write(
+        mut self,
+        offset: impl Into<Offset>,
+        data: &[u8],
+    ) -> Result<TestAndWrite, BuildError> {
+        let offset = offset.into().field()?;
         self.admit(self.write_count(), ENTRY, data)?;
         let data_length = u32::try_from(data.len()).expect("shorter than a request");
         self.writes.extend(offset.to_be_bytes());
         self.writes.extend(data_length.to_be_bytes());
         self.data.extend(data);
         Ok(self)
+    }
+
+    /// Adds a write at the end of the data, as the writes before it in this request leave it.
+    ///
+    /// ```
+    /// use beamsatchel_node::{Container, NodeId, TestAndWrite, WriteEnabler};
+    ///
+    /// # fn main() -> Result<(), beamsatchel_node::Error> {
+    /// let enabler = WriteEnabler::new([1; 32]);
+    /// let mut slot = Container::create([0; 500], NodeId([7; 20]), enabler)?;
+    /// // Behind the zeros of a gap, and one behind the other.
+    /// let request = TestAndWrite::new(enabler).write(2, b"C")?.append(b"D")?.append(b"E")?;
+    /// assert!(slot.test_and_write(&request, &mut [])?.is_done());
+    /// assert_eq!(slot.view()?.data(), b"\0\0CDE");
+    /// # Ok(())
+    /// # }
+    /// ```
+    pub fn append(self, data: &[u8]) -> Result<TestAndWrite, BuildError> {
+        self.write(Offset::END, data)
     }
 
     /// Cuts the data to a new length after the writes, where it is longer. What it frees stays with the data, as slack
@@ -175,13 +206,9 @@ impl TestAndWrite {
     /// let enabler = WriteEnabler::new([1; 32]);
     /// let mut slot = Container::create(vec![0; 1_000_472], NodeId([7; 20]), enabler)?;
     /// let samples = vec![0xA7; 1_000_000];
-    /// let mut written = 0;
-    /// while written < samples.len() {
-    ///     let request = TestAndWrite::new(enabler);
-    ///     let end = samples.len().min(written + request.write_room());
-    ///     let request = request.write(written as i32, &samples[written..end])?;
+    /// for part in samples.chunks(TestAndWrite::new(enabler).write_room()) {
+    ///     let request = TestAndWrite::new(enabler).append(part)?;
     ///     assert!(slot.test_and_write(&request, &mut [])?.is_done());
-    ///     written = end;
     /// }
     /// assert!(slot.view()?.data() == samples);
     /// # Ok(())
@@ -351,9 +378,31 @@ impl ReadData {
         ReadData::default()
     }
 
-    /// Adds a read of the data at `offset`, at most `length` bytes and stopping at the end of data. A negative offset
-    /// is well formed; the library answers it with [`NegativeOffset`](crate::Reason::NegativeOffset).
-    pub fn read(mut self, offset: i32, length: u32) -> Result<ReadData, BuildError> {
+    /// Adds a read of the data at an [`Offset`], at most `length` bytes and stopping at the end of data.
+    ///
+    /// ```
+    /// use beamsatchel_node::{Container, NodeId, Offset, ReadData, Reason, TestAndWrite, WriteEnabler};
+    ///
+    /// # fn main() -> Result<(), beamsatchel_node::Error> {
+    /// let enabler = WriteEnabler::new([1; 32]);
+    /// let mut slot = Container::create([0; 500], NodeId([7; 20]), enabler)?;
+    /// let request = TestAndWrite::new(enabler).append(b"samples")?;
+    /// assert!(slot.test_and_write(&request, &mut [])?.is_done());
+    ///
+    /// let last_three = ReadData::new().read(Offset::FromEnd(3), 3)?;
+    /// let mut space = vec![0; last_three.reply_bound()];
+    /// let reply = slot.read(&last_three, &mut space)?;
+    /// assert_eq!(reply.pieces().next(), Some(&b"les"[..]));
+    ///
+    /// // There are no last eight bytes of seven.
+    /// let last_eight = ReadData::new().read(Offset::FromEnd(8), 8)?;
+    /// let refusal = slot.read(&last_eight, &mut [0; 12]).unwrap_err();
+    /// assert_eq!(refusal.reason, Reason::OffsetBeforeStart);
+    /// # Ok(())
+    /// # }
+    /// ```
+    pub fn read(mut self, offset: impl Into<Offset>, length: u32) -> Result<ReadData, BuildError> {
+        let offset = offset.into().field()?;
         if self.read_count() == MAX_ENTRIES {
             return Err(BuildError::TooManyEntries);
         }

@@ -15,7 +15,7 @@ const REASONS: [(Reason, u32, &str); 20] = [
     (Reason::BufferLength, 1, "The container's buffer is not 472 to 16,777,216 bytes long."),
     (Reason::NotWellFormed, 2, "The buffer does not hold a well-formed container."),
     (Reason::RequestFormat, 3, "The request breaks its format."),
-    (Reason::NegativeOffset, 4, "Some offset is negative."),
+    (Reason::OffsetBeforeStart, 4, "Some offset reaches before the start of the data."),
     (Reason::EnablerDiffers, 5, "The write enabler is not the container's."),
     (Reason::ReplySpace, 7, "The reply space is shorter than the reply."),
     (Reason::TestFalse, 8, "Some test is false, so nothing was written."),
@@ -295,7 +295,7 @@ fn more_may_come() {
             Reason::BufferLength
             | Reason::NotWellFormed
             | Reason::RequestFormat
-            | Reason::NegativeOffset
+            | Reason::OffsetBeforeStart
             | Reason::EnablerDiffers
             | Reason::ReplySpace
             | Reason::TestFalse

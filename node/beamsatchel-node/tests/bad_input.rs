@@ -5,13 +5,13 @@ mod common;
 
 use beamsatchel_model as model;
 use beamsatchel_node::ffi::{self, ShareArguments};
+use common::raw::{reads, write, ENABLER};
 
 const LENGTHS: [usize; 8] = [0, 1, 471, 472, 473, 65_537, LONGEST, LONGEST + 1];
 /// The most bytes of a container's buffer.
 const LONGEST: usize = 16_777_216;
 /// The most bytes of a request.
 const LONGEST_REQUEST: usize = 65_536;
-const ENABLER: [u8; 32] = [0xEE; 32];
 
 /// Buffers of each length: zeros, ones, and a container's bytes as far as they go.
 fn buffers() -> Vec<Vec<u8>> {
@@ -36,6 +36,7 @@ fn requests(buffer: &[u8]) -> Vec<Vec<u8>> {
     add.resize(93, 7);
     let mut few = vec![Vec::new(), add, vec![3; 37], vec![4; 33], vec![5, 0, 0, 0]];
     few.extend(longest_requests());
+    few.extend(extreme_offsets());
     few
 }
 
@@ -60,6 +61,7 @@ fn all_requests() -> Vec<Vec<u8>> {
         }
     }
     requests.extend(longest_requests());
+    requests.extend(extreme_offsets());
     requests
 }
 
@@ -73,6 +75,17 @@ fn longest_requests() -> [Vec<u8>; 2] {
     let mut longer = longest.clone();
     longer.push(0);
     [longest, longer]
+}
+
+/// Reads and writes at the end, far behind it, a byte before an empty container's start and at the lowest offset. All
+/// that they write is cut.
+fn extreme_offsets() -> Vec<Vec<u8>> {
+    let offsets = [-1, i32::MAX, -2, i32::MIN];
+    let requests = offsets.into_iter().flat_map(|offset| {
+        let read = reads(&[(offset, u32::MAX)]);
+        [read, write(&[(offset, b"A")], Some(0))]
+    });
+    requests.collect()
 }
 
 /// How often each outcome was met, beside short buffers and beside long ones.
@@ -114,7 +127,7 @@ fn apply_takes_any_lengths() {
             }
         }
     }
-    met.demand([&[0, 1, 2, 3, 5, 9], &[0, 1, 2, 3, 9]]);
+    met.demand([&[0, 1, 2, 3, 4, 5, 7, 9], &[0, 1, 2, 3, 4, 7, 9]]);
 }
 
 /// Lent for reading only, a container answers reads; any other request is as the empty one.
@@ -140,7 +153,7 @@ fn read_takes_any_lengths() {
             }
         }
     }
-    met.demand([&[0, 1, 2, 3]; 2]);
+    met.demand([&[0, 1, 2, 3, 4, 7]; 2]);
 }
 
 #[test]

@@ -4,8 +4,8 @@ mod common;
 
 use beamsatchel_model as model;
 use beamsatchel_node::{
-    ffi, CancelToken, Container, Lease, NodeId, Opcode, ReadData, Reason, Refusal, RenewalToken,
-    Reply, Share, TestAndWrite, View, WriteEnabler, Written,
+    ffi, CancelToken, Container, Lease, NodeId, Offset, Opcode, ReadData, Reason, Refusal,
+    RenewalToken, Reply, Share, TestAndWrite, View, WriteEnabler, Written,
 };
 use common::{bad_share, cut, fresh, lease, rising, share, slot, with_data, BOUNDS, ENABLER, NODE};
 
@@ -242,8 +242,8 @@ fn a_read_is_short_at_the_end() {
         (8, 1, b""),
         (9, 0, b""),
         (9, 1, b""),
-        (i32::MAX, 1, b""),
-        (i32::MAX, u32::MAX, b""),
+        (2_147_483_647, 1, b""),
+        (2_147_483_647, u32::MAX, b""),
     ] {
         let request = ReadData::new().read(offset, length).unwrap();
         let mut space = vec![0xA5; 4 + piece.len()];
@@ -262,18 +262,20 @@ fn a_read_is_short_at_the_end() {
 fn a_read_is_refused() {
     let bytes = with_data(1000, b"abcdefgh");
     let slot = Container::open(&bytes[..]).unwrap();
-    let read = |offset, length, space: usize| {
+    let read = |offset: Offset, length, space: usize| {
         let request = ReadData::new().read(offset, length).unwrap();
         let mut space = vec![0xA5; space];
         let refused = reason(slot.read(&request, &mut space));
         assert!(space.iter().all(|byte| *byte == 0xA5));
         refused
     };
-    assert_eq!(read(-1, 1, 5), Reason::NegativeOffset);
-    assert_eq!(read(-1, 1, 0), Reason::NegativeOffset);
-    assert_eq!(read(7, 1, 4), Reason::ReplySpace);
+    let before_start = Offset::FromEnd(9);
+    assert_eq!(read(before_start, 1, 5), Reason::OffsetBeforeStart);
+    assert_eq!(read(before_start, 1, 0), Reason::OffsetBeforeStart);
+    assert_eq!(read(Offset::FromStart(7), 1, 4), Reason::ReplySpace);
     // The piece that exists has no space.
-    assert_eq!(read(6, 100, 5), Reason::ReplySpace);
+    assert_eq!(read(Offset::FromStart(6), 100, 5), Reason::ReplySpace);
+    assert_eq!(read(Offset::FromEnd(2), 100, 5), Reason::ReplySpace);
     let mut bad = bytes.clone();
     bad[999] = 1;
     let refused = Container::adopt(&bad).read(&ReadData::new(), &mut []);
@@ -336,9 +338,14 @@ fn a_test_and_write_is_refused() {
         (refusal.reason, refusal.accepted_by),
         (Reason::NoRoom, None)
     );
-    let negative = TestAndWrite::new(ENABLER).write(-1, b"!").unwrap();
-    let refused = slot.test_and_write(&negative, &mut []);
-    assert_eq!(reason(refused), Reason::NegativeOffset);
+    let append = TestAndWrite::new(ENABLER).append(b"!").unwrap();
+    assert_eq!(
+        reason(slot.test_and_write(&append, &mut [])),
+        Reason::NoRoom
+    );
+    let before_start = TestAndWrite::new(ENABLER).write(Offset::FromEnd(9), b"!");
+    let refused = slot.test_and_write(&before_start.unwrap(), &mut []);
+    assert_eq!(reason(refused), Reason::OffsetBeforeStart);
     let request = TestAndWrite::new(ENABLER);
     let request = request.test(0, 8, Opcode::Equal, b"").unwrap();
     let mut space = [0; 11];

@@ -4,7 +4,7 @@ mod common;
 
 use beamsatchel_model as model;
 use beamsatchel_node::ffi::{self, ShareArguments};
-use common::raw::{add, cancel, reads, write, Write, ENABLER, NODE};
+use common::raw::{add, append, cancel, reads, test_and_write, write, Write, ENABLER, NODE};
 
 /// Applies a request by the library and by the model, which must agree.
 fn apply(container: &mut [u8], request: &[u8], reply: &mut [u8]) -> (u32, u64) {
@@ -29,13 +29,7 @@ fn fresh(length: usize) -> Vec<u8> {
 
 /// A kind 1 request with one test of up to ten bytes at 0, and one write at 0.
 fn test(opcode: u8, specimen: &[u8], data: &[u8]) -> Vec<u8> {
-    let mut request = vec![1, 1, 1, 0, 0, 0, 0, 0];
-    request.extend(ENABLER);
-    request.extend([0, 0, 0, 0, 0, 0, 0, 10, opcode, 0, 0, specimen.len() as u8]);
-    request.extend([0, 0, 0, 0, 0, 0, 0, data.len() as u8]);
-    request.extend(specimen);
-    request.extend(data);
-    request
+    test_and_write(&[(0, 10, opcode, specimen)], &[(0, data)], None)
 }
 
 fn number(container: &mut [u8], request: &[u8]) -> u32 {
@@ -295,10 +289,7 @@ fn p13_reads_and_tests_stop_at_the_end() {
     let across = (0, 6, b"\0\0\0\x02DE".to_vec());
     assert_eq!(seen(&reads(&[(3, 4)]), 6), across);
     assert_eq!(seen(&reads(&[(3, 2)]), 6), across);
-    let mut test = vec![1, 1, 0, 0, 0, 0, 0, 0];
-    test.extend(ENABLER);
-    test.extend([0, 0, 0, 3, 0, 0, 0, 4, 3, 0, 0, 2]);
-    test.extend(b"DE");
+    let test = test_and_write(&[(3, 4, 3, b"DE")], &[], None);
     assert_eq!(seen(&test, 6), across);
     let nothing = (0, 4, vec![0, 0, 0, 0, 9, 9]);
     for read in [(5, 1), (6, 1), (5, 0), (6, 0)] {
@@ -326,13 +317,164 @@ fn p15_reply_space_holds_the_short_pieces() {
     assert_eq!(seen(&request, 15), (7, 0, vec![9; 15]));
 }
 
+/// A refusal with 4 beside so many bytes.
+fn before_the_start(space: usize) -> (u32, u64, Vec<u8>) {
+    (4, 0, vec![9; space])
+}
+
 #[test]
-fn p16_a_negative_offset_comes_first() {
-    assert_eq!(seen(&reads(&[(-1, 1)]), 6), (4, 0, vec![9; 6]));
+fn p16_an_offset_before_the_start_comes_first() {
+    assert_eq!(seen(&reads(&[(-7, 1)]), 6), before_the_start(6));
     for space in [10, 0] {
-        let request = reads(&[(0, 1), (-1, 1)]);
-        assert_eq!(seen(&request, space), (4, 0, vec![9; space]));
+        let request = reads(&[(0, 1), (-7, 1)]);
+        assert_eq!(seen(&request, space), before_the_start(space));
     }
+}
+
+#[test]
+fn p39_reads_and_tests_from_the_end() {
+    let nothing = |space: usize| (0, 4, [&[0; 4][..], &vec![9; space - 4]].concat());
+    let all = (0, 9, b"\0\0\0\x05ABCDE".to_vec());
+    assert_eq!(seen(&reads(&[(-1, 10)]), 6), nothing(6));
+    let last_four = (0, 8, b"\0\0\0\x04BCDE".to_vec());
+    assert_eq!(seen(&reads(&[(-5, 10)]), 8), last_four);
+    assert_eq!(seen(&reads(&[(-6, 10)]), 9), all);
+    for read in [(-7, 10), (-7, 0), (-2_147_483_648, 1)] {
+        assert_eq!(seen(&reads(&[read]), 9), before_the_start(9));
+    }
+    let eq = |offset, length, specimen| test_and_write(&[(offset, length, 3, specimen)], &[], None);
+    for length in [0, 5] {
+        assert_eq!(seen(&eq(-1, length, b""), 4), nothing(4));
+    }
+    assert_eq!(seen(&eq(-6, 5, b"ABCDE"), 9), all);
+    assert_eq!(seen(&eq(-7, 0, b""), 4), before_the_start(4));
+    // Tests are resolved before any write, and so is their piece.
+    let request = test_and_write(&[(-6, 5, 3, b"ABCDE")], &[(-1, b"X")], None);
+    let mut container = with_data(500, b"ABCDE", 0);
+    let mut reply = [9; 9];
+    assert_eq!(apply(&mut container, &request, &mut reply), (0, 9));
+    assert_eq!((&reply[..], data(&container)), (&all.2[..], &b"ABCDEX"[..]));
+    let request = test_and_write(&[(-7, 0, 3, b"")], &[(-1, b"X")], None);
+    assert_eq!(seen(&request, 4), before_the_start(4));
+}
+
+/// What requests without tests leave, one after the other in a fresh container of so many bytes: the last one's number,
+/// and the data. Those before it are done.
+fn left(length: usize, requests: &[(&[Write], Option<u32>)]) -> (u32, Vec<u8>) {
+    let mut container = fresh(length);
+    let numbers = requests.iter().map(|(writes, cut)| {
+        let request = write(writes, *cut);
+        number(&mut container, &request)
+    });
+    let numbers: Vec<u32> = numbers.collect();
+    let (last, before) = numbers.split_last().expect("a request");
+    assert!(before.iter().all(|number| *number == 0));
+    (*last, data(&container).to_vec())
+}
+
+#[test]
+fn p40_appends() {
+    for (writes, number, data) in [
+        (&[(-1, &b"AB"[..])][..], 0, &b"AB"[..]),
+        (&[(-1, b"AB"), (-1, b"CD")], 0, b"ABCD"),
+        (&[(-1, b"AB"), (-2, b"C")], 0, b"AC"),
+        (&[(-2, b"X")], 4, b""),
+        (&[(-2, b"")], 4, b""),
+        (&[(-1, b"")], 0, b""),
+        // Empty writes do not count, and gaps do.
+        (&[(9, b""), (-1, b"A")], 0, b"A"),
+        (&[(3, b"A"), (-1, b"B")], 0, b"\0\0\0AB"),
+        (&[(3, b"A"), (-5, b"B")], 0, b"B\0\0A"),
+        (&[(3, b"A"), (-6, b"B")], 4, b""),
+    ] {
+        assert_eq!(left(500, &[(writes, None)]), (number, data.to_vec()));
+    }
+    let two: [(&[Write], _); 2] = [(&[(-1, b"AB")], None), (&[(-1, b"CD")], None)];
+    assert_eq!(left(500, &two), (0, b"ABCD".to_vec()));
+    let over_the_first: [(&[Write], _); 2] =
+        [(&[(-1, b"ABCDE")], None), (&[(-1, b"F"), (-7, b"X")], None)];
+    assert_eq!(left(500, &over_the_first), (0, b"XBCDEF".to_vec()));
+}
+
+#[test]
+fn p41_appends_and_room() {
+    assert_eq!(number(&mut fresh(473), &append(b"A")), 0);
+    assert_eq!(number(&mut fresh(473), &append(b"AB")), 11);
+    let abcde: (&[Write], _) = (&[(0, b"ABCDE")], None);
+    let behind_a_cut = left(500, &[abcde, (&[], Some(2)), (&[(-1, b"Z")], None)]);
+    assert_eq!(behind_a_cut, (0, b"ABZ".to_vec()));
+    let before_a_cut = left(500, &[abcde, (&[(-1, b"Z")], Some(2))]);
+    assert_eq!(before_a_cut, (0, b"AB".to_vec()));
+    let inside_a_cut = left(500, &[abcde, (&[(-5, b"Z")], Some(2))]);
+    assert_eq!(inside_a_cut, (0, b"AZ".to_vec()));
+}
+
+/// On what the cut leaves, the first would go to byte 0, and the others would be before the start.
+#[test]
+fn a_write_does_not_count_from_the_cut() {
+    let abcde: (&[Write], _) = (&[(0, b"ABCDE")], None);
+    for (offset, cut, data) in [(-4, 3, &b"ABZ"[..]), (-6, 3, b"ZBC"), (-6, 0, b"")] {
+        let after = left(500, &[abcde, (&[(offset, b"Z")], Some(cut))]);
+        assert_eq!(after, (0, data.to_vec()));
+    }
+}
+
+#[test]
+fn p42_behind_a_far_write() {
+    let writes: &[Write] = &[(2_147_483_647, b"A"), (-1, b"B")];
+    assert_eq!(left(482, &[(writes, Some(10))]), (0, vec![0; 10]));
+    assert_eq!(left(481, &[(writes, Some(10))]), (11, vec![]));
+}
+
+#[test]
+fn p43_the_lowest_offset() {
+    const LOWEST: i32 = -2_147_483_648;
+    let to_ten = |data: &[u8]| [data, &vec![0; 10 - data.len()]].concat();
+    for (writes, number, data) in [
+        (
+            &[(2_147_483_646, &b"A"[..]), (LOWEST, b"B")][..],
+            0,
+            to_ten(b"B"),
+        ),
+        (&[(2_147_483_647, b"A"), (LOWEST, b"B")], 0, to_ten(b"\0B")),
+        (&[(2_147_483_645, b"A"), (LOWEST, b"B")], 4, vec![]),
+        (
+            &[(2_147_483_647, b"A"), (LOWEST, b""), (LOWEST, b"B")],
+            0,
+            to_ten(b"\0B"),
+        ),
+        (&[(2_147_483_647, b""), (LOWEST, b"B")], 4, vec![]),
+    ] {
+        assert_eq!(left(482, &[(writes, Some(10))]), (number, data));
+    }
+}
+
+#[test]
+fn p44_before_the_start_comes_after_the_format_alone() {
+    let before: Write = (-7, b"X");
+    let mut other_enabler = write(&[before], None);
+    other_enabler[8..40].fill(1);
+    assert_eq!(seen(&other_enabler, 4), before_the_start(4));
+    let tested = test_and_write(&[(-7, 5, 3, b"ABCDE")], &[], None);
+    assert_eq!(seen(&tested, 0), before_the_start(0));
+    let falsely = test_and_write(&[(0, 1, 3, b"")], &[before], None);
+    assert_eq!(seen(&falsely, 5), before_the_start(5));
+    // Without the second write, and where that names byte 0, there is no room.
+    let grown = [b'F'; 24];
+    let no_room = |offset: i32| write(&[(5, &grown), (offset, b"")], None);
+    assert_eq!(seen(&no_room(-31), 4), before_the_start(4));
+    assert_eq!(seen(&no_room(-30), 4), (11, 0, vec![9; 4]));
+    let broken = test_and_write(&[(-7, 0, 7, b"")], &[], None);
+    assert_eq!(seen(&broken, 4), (3, 0, vec![9; 4]));
+    for request in [write(&[before], None), reads(&[(-7, 1)])] {
+        let broken = [&request[..], &[0]].concat();
+        assert_eq!(seen(&broken, 0), (3, 0, vec![]));
+    }
+    // It is not before the start of what the write before it leaves.
+    let mut container = with_data(500, b"ABCDE", 0);
+    let behind = write(&[(5, b"F"), before], None);
+    assert_eq!(number(&mut container, &behind), 0);
+    assert_eq!(data(&container), b"XBCDEF");
 }
 
 /// `ABCDE` with so many bytes of slack, and the leases of owners 1 to 5.

@@ -7,7 +7,7 @@ mod common;
 
 use beamsatchel_model::{self as model, Request};
 use beamsatchel_node::{
-    AddLease, BuildError, CancelLease, Container, Opcode, ReadData, Reason, RenewLease,
+    AddLease, BuildError, CancelLease, Container, Offset, Opcode, ReadData, Reason, RenewLease,
     TestAndWrite, Written,
 };
 use common::{lease, rising, with_data, ENABLER};
@@ -30,10 +30,11 @@ fn test_and_write_comes_back() {
         cut: Some(99),
     };
     for entry in 0..16 {
-        let (offset, body) = (entry as i32 * 1000 - 3, vec![entry as u8; entry]);
+        let (offset, body) = (entry as i32 * 1000 + 3, vec![entry as u8; entry]);
+        let from_end = Offset::FromEnd(offset as u32);
         let opcode = opcodes[entry % 6];
-        built = built.test(offset, u32::MAX, opcode, &body).unwrap();
-        built = built.write(-offset, &body).unwrap();
+        built = built.test(offset as u32, u32::MAX, opcode, &body).unwrap();
+        built = built.write(from_end, &body).unwrap();
         expected.tests.push(model::Test {
             offset,
             length: u32::MAX,
@@ -41,7 +42,7 @@ fn test_and_write_comes_back() {
             specimen: body.clone(),
         });
         expected.writes.push(model::Write {
-            offset: -offset,
+            offset: -1 - offset,
             data: body,
         });
         let request = Request::from_bytes(&built.to_bytes());
@@ -108,7 +109,7 @@ fn read_comes_back() {
     let mut expected = Vec::new();
     for entry in 0..16 {
         let (offset, length) = (i32::MAX - entry, u32::MAX - entry as u32);
-        built = built.read(offset, length).unwrap();
+        built = built.read(offset as u32, length).unwrap();
         expected.push(model::Read { offset, length });
         let request = Request::from_bytes(&built.to_bytes());
         assert_eq!(request, Some(Request::Read(expected.clone())));
@@ -154,12 +155,17 @@ fn the_bytes_of_a_test_and_write() {
     let request = TestAndWrite::new(ENABLER)
         .write(0x0102_0304, b"first")
         .unwrap()
-        .test(-2, 0x0506_0708, Opcode::GreaterOrEqual, b"left")
+        .test(
+            Offset::FromEnd(1),
+            0x0506_0708,
+            Opcode::GreaterOrEqual,
+            b"left",
+        )
         .unwrap()
         .cut(0x090A_0B0C)
         .test(9, 10, Opcode::Less, &[0x77; 0x102])
         .unwrap()
-        .write(-1, b"")
+        .append(b"")
         .unwrap()
         .write(7, b"last")
         .unwrap();
@@ -207,7 +213,7 @@ fn the_bytes_of_lease_requests() {
 fn the_bytes_of_a_read() {
     assert_eq!(ReadData::new().to_bytes(), [5, 0, 0, 0]);
     let request = ReadData::new().read(0x0102_0304, 0x0506_0708).unwrap();
-    let request = request.read(-1, 9).unwrap();
+    let request = request.read(Offset::END, 9).unwrap();
     let expected = [
         5, 2, 0, 0, 1, 2, 3, 4, 5, 6, 7, 8, 0xFF, 0xFF, 0xFF, 0xFF, 0, 0, 0, 9,
     ];
@@ -236,11 +242,15 @@ fn what_a_builder_refuses() {
             "a request has at most 16 entries of a sort",
         ),
         (BuildError::TooLong, "a request has at most 65,536 bytes"),
+        (
+            BuildError::OffsetTooFar,
+            "an offset is at most 2,147,483,647 bytes from the start or the end of the data",
+        ),
     ] {
         assert_eq!(error.to_string(), text);
         // More may come: the last arm would be unreachable if that were not announced.
         match error {
-            BuildError::TooManyEntries | BuildError::TooLong => {}
+            BuildError::TooManyEntries | BuildError::TooLong | BuildError::OffsetTooFar => {}
             _ => unreachable!(),
         }
     }
@@ -258,7 +268,7 @@ fn a_read_may_need_all_of_its_bound() {
     let longest = ReadData::new().read(0, LONGEST as u32).unwrap();
     assert_eq!(longest.reply_bound(), 4 + LONGEST);
     let all = (0..16).try_fold(ReadData::new(), |request, at| {
-        request.read(at, LONGEST as u32 - at as u32)
+        request.read(at, LONGEST as u32 - at)
     });
     let all = all.unwrap();
     assert_eq!(all.reply_bound(), 16 * 4 + 16 * LONGEST - 120);

@@ -6,7 +6,7 @@ mod common;
 
 use beamsatchel_node::ffi;
 use common::memory::{page_size, Access, Memory};
-use common::raw::{add, write_at, ENABLER, NODE};
+use common::raw::{add, append, write, write_at, ENABLER, NODE};
 
 /// A container of many pages, whose data one request can fill.
 const LENGTH: usize = 65_536;
@@ -97,6 +97,27 @@ fn at_the_end_of_long_data_only_the_first_and_the_last_page_are_stored_to() {
             write_at(0, b"", Some(size)),
         ],
     );
+}
+
+/// From the end is as from the start: into the slack that a cut leaves, past it, and over the last bytes.
+#[test]
+fn an_append_stores_to_the_same_pages_as_a_write_at_the_end() {
+    let mut slot = Pages::with_data_up_to(1);
+    let (size, last) = (slot.size(), slot.count() - 1);
+    slot.done_on(
+        &[0, last],
+        &[
+            append(&[b'B'; 64]),
+            append(&[b'C'; 64]),
+            write_at(0, b"", Some(size)),
+            append(&[b'D'; 100]),
+            append(&[b'E'; 100]),
+            write(&[(-1, b"F"), (-1, b"G")], None),
+        ],
+    );
+    assert_eq!(slot.size(), size + 202);
+    slot.done_on(&[last], &[write(&[(-203, &[b'H'; 202])], None)]);
+    slot.done_on(&[], &[append(b"")]);
 }
 
 #[test]

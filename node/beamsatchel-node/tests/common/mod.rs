@@ -49,12 +49,10 @@ pub fn fresh(length: usize) -> Vec<u8> {
 /// The bytes of a container with this data, and no leases.
 pub fn with_data(length: usize, data: &[u8]) -> Vec<u8> {
     let mut slot = Container::adopt(fresh(length));
-    let mut written = 0;
     // As many requests as it takes.
     for bytes in data.chunks(65_000) {
-        let request = TestAndWrite::new(ENABLER).write(written, bytes).unwrap();
+        let request = TestAndWrite::new(ENABLER).append(bytes).unwrap();
         assert!(slot.test_and_write(&request, &mut []).unwrap().is_done());
-        written += bytes.len() as i32;
     }
     slot.into_buffer()
 }

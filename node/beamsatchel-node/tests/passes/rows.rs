@@ -1,6 +1,8 @@
 //! The requests, what they ask for in which container, and how often each page may be visited for them.
 
-use crate::common::raw::{add, cancel, reads, write_at, ENABLER, NODE};
+use crate::common::raw::{
+    add, append, cancel, reads, test_and_write, write, write_at, ENABLER, NODE,
+};
 use crate::pages::{Pages, Visits, LENGTH};
 use beamsatchel_node::ffi;
 use std::ops::Range;
@@ -112,9 +114,21 @@ fn rows() -> Vec<Row> {
             tail(),
         ),
         done(
+            "append a little, with little data",
+            Little,
+            append(&[b'A'; 64]),
+            tail(),
+        ),
+        done(
             "a far write, which moves the extra leases to the end",
             Little,
             far(),
+            vec![part(BEHIND_LITTLE..DATA + MOST, 2, 1)],
+        ),
+        done(
+            "a far write, and an append up to the end",
+            Little,
+            write(&[(MOST as i32 - 2, b"Y"), (-1, b"Z")], None),
             vec![part(BEHIND_LITTLE..DATA + MOST, 2, 1)],
         ),
         done(
@@ -123,12 +137,24 @@ fn rows() -> Vec<Row> {
             far(),
             vec![part(DATA..DATA + MOST - 1, 1, 0)],
         ),
+        done(
+            "append a little, inside the slack",
+            Slack,
+            append(&[b'A'; 64]),
+            data(1, 0),
+        ),
         done("renew a lease, behind slack", Slack, renew(), data(1, 0)),
         done("renew a lease, behind much data", Much, renew(), data(0, 0)),
         done(
             "write 64 bytes at the end of much data",
             Much,
             write_at(MOST - 64, &[b'B'; 64], None),
+            vec![part(DATA..DATA + MOST - 64, 0, 0)],
+        ),
+        done(
+            "write the last 64 bytes of much data, from the end",
+            Much,
+            write(&[(-65, &[b'B'; 64])], None),
             vec![part(DATA..DATA + MOST - 64, 0, 0)],
         ),
         done(
@@ -152,6 +178,12 @@ fn rows() -> Vec<Row> {
             Much,
             reads(&[(0, MOST as u32)]),
             data(1, 0),
+        ),
+        done(
+            "read the last 64 bytes of much data, from the end",
+            Much,
+            reads(&[(-65, 64)]),
+            vec![part(DATA..DATA + MOST - 64, 0, 0)],
         ),
         done(
             "test all of much data, against a specimen of 60,000 bytes",
@@ -184,6 +216,19 @@ fn rows() -> Vec<Row> {
                 Little,
                 write_at(MOST, b"Z", None),
                 tail(),
+            )
+        },
+        Row {
+            number: 11,
+            ..done("append a byte to much data", Much, append(b"Z"), data(0, 0))
+        },
+        Row {
+            number: 4,
+            ..done(
+                "a read a byte before the start of much data",
+                Much,
+                reads(&[(-2 - MOST as i32, u32::MAX)]),
+                data(0, 0),
             )
         },
         Row {
@@ -283,14 +328,7 @@ fn fill(bytes: &mut [u8], holding: Holding) {
 
 /// A kind 1 request with one test, by gt, of so many bytes from 0.
 fn test(length: usize, specimen: &[u8]) -> Vec<u8> {
-    let mut request = vec![1, 1, 0, 0, 0, 0, 0, 0];
-    request.extend(ENABLER);
-    request.extend([0; 4]);
-    request.extend((length as u32).to_be_bytes());
-    request.extend([6, 0]);
-    request.extend((specimen.len() as u16).to_be_bytes());
-    request.extend(specimen);
-    request
+    test_and_write(&[(0, length as u32, 6, specimen)], &[], None)
 }
 
 /// The last lease, with a later expiry.
