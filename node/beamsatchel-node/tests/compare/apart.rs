@@ -4,6 +4,7 @@
 use crate::case::Case;
 use crate::checker::Checker;
 use crate::histories::next_request;
+use crate::offsets::{appends, Named};
 use crate::rng::Rng;
 use crate::slacks::Slack;
 use crate::{containers, requests};
@@ -40,6 +41,10 @@ pub fn run(cases: u64, rng: &mut Rng, checker: &mut Checker) {
             let moved = [0, 1].map(|way| after[way].count() != before[way].count());
             if moved[0] != moved[1] {
                 checker.tally.slacks(vec![Slack::MovedInOneAlone]);
+            }
+            let appended = answers[0].number == 0 && appends(&asked.request);
+            if appended && before[0].slack != before[1].slack {
+                checker.tally.named([Named::AppendBesideOtherSlack]);
             }
             ways = cases.map(|case| case.container);
         }

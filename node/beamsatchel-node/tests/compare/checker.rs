@@ -4,6 +4,7 @@ use crate::case::Case;
 use crate::common::modelled;
 use crate::long::Long;
 use crate::looks::Look;
+use crate::offsets::Named;
 use crate::shapes::Shape;
 use crate::slacks::Slack;
 use crate::tally::{Call, Tally};
@@ -50,6 +51,7 @@ impl Checker {
         self.tally.outcome(call, answer.number, || show(&before));
         self.tally
             .looks(call, Look::of_case(&before, answer.number));
+        self.tally.named(Named::of_case(&before, answer.number));
         self.tally
             .touches(Touch::of_case(&before, answer.number, case));
         self.tally

@@ -5,9 +5,11 @@
 use crate::case::Case;
 use crate::checker::Checker;
 use crate::containers::MAX_LENGTH;
+use crate::offsets::{appends, Named};
 use crate::requests;
 use crate::rng::Rng;
-use beamsatchel_model::{Container, Request, TestAndWrite};
+use beamsatchel_model::{grow, place, Container, Request, TestAndWrite};
+use std::ops::Range;
 
 const REQUESTS: u64 = 3000;
 
@@ -20,19 +22,24 @@ pub fn run(cases: u64, rng: &mut Rng, checker: &mut Checker) {
             _ => rng.pick(&[472, 473, 564, MAX_LENGTH]),
         };
         let mut container = create(length, rng, checker);
-        let mut accepted = Vec::new();
+        let mut accepted: Vec<Accepted> = Vec::new();
         for _ in 0..REQUESTS {
             let mut case = next_request(rng, container, requests::any);
             let answer = checker.apply(&mut case);
             if answer.number == 0 && case.request[0] == 1 {
-                accepted.push(test_and_write(&case.request));
+                let size = accepted.last().map_or(0, |last| last.size);
+                accepted.push(Accepted::on(size, test_and_write(&case.request)));
+                if appends(&case.request) {
+                    checker.tally.named([Named::AppendInHistory]);
+                }
             }
             container = case.container;
         }
         let parts = Container::from_bytes(&container).expect("well formed");
         assert_eq!(parts.data, data_of(&accepted), "data after a history");
-        let longest = sizes(&accepted).max().unwrap_or(0);
-        assert_eq!(parts.count(), 468 + longest, "the count after a history");
+        let longest = accepted.iter().map(|request| request.size).max();
+        let count = 468 + longest.unwrap_or(0);
+        assert_eq!(parts.count(), count, "the count after a history");
     }
 }
 
@@ -40,6 +47,28 @@ fn test_and_write(request: &[u8]) -> TestAndWrite {
     match Request::from_bytes(request) {
         Some(Request::TestAndWrite(request)) => request,
         other => panic!("accepted as a test-and-write: {other:?}"),
+    }
+}
+
+/// A test-and-write that was accepted.
+struct Accepted {
+    request: TestAndWrite,
+    /// Where its writes went.
+    places: Vec<Range<u64>>,
+    /// The size that it left: its writes raise it, and its cut lowers it.
+    size: u64,
+}
+
+impl Accepted {
+    /// On data of the size that the requests before it left. What it names depends on nothing else.
+    fn on(size: u64, request: TestAndWrite) -> Accepted {
+        let places = place(&request.writes, size).expect("or it was refused");
+        let raised = places.iter().fold(size, grow);
+        Accepted {
+            size: request.cut.map_or(raised, |cut| raised.min(u64::from(cut))),
+            places,
+            request,
+        }
     }
 }
 
@@ -72,39 +101,26 @@ pub fn next_request(
 
 /// The data after a history, from its accepted test-and-writes alone: a byte is what was written
 /// there last, unless a later cut took it.
-fn data_of(accepted: &[TestAndWrite]) -> Vec<u8> {
-    let size = sizes(accepted).last().unwrap_or(0);
-    (0..size as usize)
+fn data_of(accepted: &[Accepted]) -> Vec<u8> {
+    let size = accepted.last().map_or(0, |last| last.size);
+    (0..size)
         .map(|position| byte_at(position, accepted))
         .collect()
 }
 
-/// The size after each accepted test-and-write: its writes raise it, and its cut lowers it.
-fn sizes(accepted: &[TestAndWrite]) -> impl Iterator<Item = u64> + '_ {
-    accepted.iter().scan(0, |size, request| {
-        let raised = request
-            .writes
-            .iter()
-            .filter(|write| !write.data.is_empty())
-            .map(|write| write.offset as u64 + write.data.len() as u64)
-            .fold(*size, u64::max);
-        *size = request.cut.map_or(raised, |cut| raised.min(u64::from(cut)));
-        Some(*size)
-    })
-}
-
 /// Looks for the byte from the last request back; a request's cut follows its writes.
-fn byte_at(position: usize, accepted: &[TestAndWrite]) -> u8 {
-    for request in accepted.iter().rev() {
-        if request.cut.is_some_and(|cut| cut as usize <= position) {
+fn byte_at(position: u64, accepted: &[Accepted]) -> u8 {
+    for Accepted {
+        places, request, ..
+    } in accepted.iter().rev()
+    {
+        let TestAndWrite { writes, cut, .. } = request;
+        if cut.is_some_and(|cut| u64::from(cut) <= position) {
             return 0;
         }
-        let written = request.writes.iter().rev().find_map(|write| {
-            let inside = position.checked_sub(write.offset as usize)?;
-            write.data.get(inside).copied()
-        });
-        if let Some(byte) = written {
-            return byte;
+        let mut written = writes.iter().zip(places).rev();
+        if let Some((write, place)) = written.find(|(_, place)| place.contains(&position)) {
+            return write.data[(position - place.start) as usize];
         }
     }
     0

@@ -1,5 +1,5 @@
-//! Containers that are longer than a request can be, up to the longest and one byte past it. Each case costs many passes
-//! over 16 MiB, so there are few, and each is aimed at an edge.
+//! Containers that are longer than a request can be, up to the longest and one byte past it. Each case costs many
+//! passes over 16 MiB, so there are few, and each is aimed at an edge.
 
 use crate::case::Case;
 use crate::checker::Checker;
@@ -8,7 +8,7 @@ use crate::histories;
 use crate::requests;
 use crate::rng::Rng;
 use beamsatchel_model::{
-    Container, Lease, Read, Request, Test, TestAndWrite, Write, LONGEST_REQUEST,
+    grow, place, Container, Lease, Read, Request, Test, TestAndWrite, Write, LONGEST_REQUEST,
 };
 
 /// The most bytes of a container's buffer.
@@ -79,10 +79,18 @@ pub enum Long {
     /// The reply space was too short for it.
     TestPieceLacksSpace,
     ReadPieceLacksSpace,
+    /// Such data was looked at from its first byte on, counted from the end, or refused for a byte before.
+    TestFromTheEnd,
+    ReadFromTheEnd,
+    TestBeforeTheStart,
+    ReadBeforeTheStart,
+    /// The last write of a far growth was an append: up to the end of the longest buffer, or a byte too long.
+    AppendFits,
+    AppendLacksAByte,
 }
 
 impl Long {
-    pub const ALL: [Long; 26] = [
+    pub const ALL: [Long; 32] = [
         Long::Between,
         Long::OneLess,
         Long::Longest,
@@ -109,6 +117,12 @@ impl Long {
         Long::FalseTestPiece,
         Long::TestPieceLacksSpace,
         Long::ReadPieceLacksSpace,
+        Long::TestFromTheEnd,
+        Long::ReadFromTheEnd,
+        Long::TestBeforeTheStart,
+        Long::ReadBeforeTheStart,
+        Long::AppendFits,
+        Long::AppendLacksAByte,
     ];
 
     /// What a case met that was answered with this number.
@@ -160,10 +174,15 @@ fn of_request(old: &Container, before: &Case, number: u32, after: &Case) -> Vec<
     let new = Container::from_bytes(&after.container).expect("well formed");
     let behind_much = is_long(old.data.len() + old.slack);
     let mut met: Vec<Long> = of_pieces(old, &request, number).into_iter().collect();
+    met.extend(of_first_byte(old, &request, number));
     match (request, number) {
         (Request::TestAndWrite(asked), 0) => met.extend(of_writes(old, &asked, &new)),
         (Request::TestAndWrite(asked), 11) if old.length == LONGEST => {
-            met.extend(lacks_a_byte(old, before, asked).then_some(Long::FarGrowthLacksAByte));
+            let appended = ends_with_append(&asked);
+            if lacks_a_byte(old, before, asked) {
+                met.push(Long::FarGrowthLacksAByte);
+                met.extend(appended.then_some(Long::AppendLacksAByte));
+            }
         }
         (Request::Add(_), 0) if behind_much && new.extras() > old.extras() => {
             met.push(Long::AddedExtra)
@@ -188,7 +207,10 @@ fn of_writes(old: &Container, asked: &TestAndWrite, new: &Container) -> Vec<Long
     if is_long(grown) && new.count() > old.count() {
         met.push(Long::FarGrowth);
         met.extend(extras.then_some(Long::FarGrowthOfExtras));
-        met.extend((new.used() == LONGEST as u64).then_some(Long::FarGrowthFits));
+        if new.used() == LONGEST as u64 {
+            met.push(Long::FarGrowthFits);
+            met.extend(ends_with_append(asked).then_some(Long::AppendFits));
+        }
     }
     if is_long(grown) && new.count() == old.count() {
         met.push(Long::FarGrowthInSlack);
@@ -197,17 +219,19 @@ fn of_writes(old: &Container, asked: &TestAndWrite, new: &Container) -> Vec<Long
         met.push(Long::FarCut);
         met.extend(extras.then_some(Long::FarCutBesideExtras));
     }
-    let mut writes = asked.writes.iter().filter(|write| !write.data.is_empty());
-    let far = writes.any(|write| write.offset as usize + write.data.len() > LONGEST);
+    let size = old.data.len() as u64;
+    let places = place(&asked.writes, size).expect("or it was refused");
+    let far = places.iter().fold(size, grow) > LONGEST as u64;
     met.extend(far.then_some(Long::FarOnTheWay));
     met
 }
 
 /// What became of a piece of more than a request's length.
 fn of_pieces(old: &Container, request: &Request, number: u32) -> Option<Long> {
-    let mut extents = requests::extents(request).into_iter();
-    let long = extents.any(|(offset, length)| {
-        let rest = old.data.len().saturating_sub(offset.max(0) as usize);
+    let size = old.data.len();
+    let mut extents = requests::extents(request, size).into_iter();
+    let long = extents.any(|(position, length)| {
+        let rest = size.saturating_sub(position as usize);
         is_long(rest.min(length as usize))
     });
     let met = match (request, number) {
@@ -219,6 +243,32 @@ fn of_pieces(old: &Container, request: &Request, number: u32) -> Option<Long> {
         _ => return None,
     };
     long.then_some(met)
+}
+
+/// Whether a lone test or read of long data began at its first byte, counted from the end, or one before it.
+fn of_first_byte(old: &Container, request: &Request, number: u32) -> Option<Long> {
+    let size = old.data.len();
+    let (offset, [from_end, before_start]) = match request {
+        Request::TestAndWrite(request) => (
+            request.tests.first()?.offset,
+            [Long::TestFromTheEnd, Long::TestBeforeTheStart],
+        ),
+        Request::Read(reads) => (
+            reads.first()?.offset,
+            [Long::ReadFromTheEnd, Long::ReadBeforeTheStart],
+        ),
+        _ => return None,
+    };
+    let first_byte = -1 - size as i32;
+    match number {
+        0 if offset == first_byte => is_long(size).then_some(from_end),
+        4 if offset == first_byte - 1 => is_long(size).then_some(before_start),
+        _ => None,
+    }
+}
+
+fn ends_with_append(asked: &TestAndWrite) -> bool {
+    asked.writes.last().is_some_and(|write| write.offset == -1)
 }
 
 /// Whether the request would be done, and make the data grow by more than a request's length, without the last byte of
@@ -322,8 +372,8 @@ fn on_container(rng: &mut Rng, checker: &mut Checker, container: &Container) {
     checker.share_in_container(&container.to_bytes());
 }
 
-/// Growth to the last byte that there is and one past it: by a write past a gap, by a longer one, by one far past the
-/// buffer with a cut.
+/// Growth to the last byte that there is and one past it: by a write past a gap, by a longer one, by an append behind
+/// one, by one far past the buffer with a cut.
 fn fitting(rng: &mut Rng, checker: &mut Checker, container: &Container) {
     let (size, extras) = (container.data.len(), container.extras());
     let most = container.length - 472 - 92 * extras;
@@ -336,6 +386,12 @@ fn fitting(rng: &mut Rng, checker: &mut Checker, container: &Container) {
         if size < last {
             asked.push(write(last as i32 - 1, b"Z"));
             asked.push(write(start as i32, &rng.letters(last - start)));
+            // The first one ends where the append begins.
+            let mut appended = write(start.saturating_sub(1) as i32, b"Y");
+            appended
+                .writes
+                .extend(write(-1, &rng.letters(last - start)).writes);
+            asked.push(appended);
         }
         for request in asked {
             assert_eq!(
@@ -394,8 +450,8 @@ fn leasing(rng: &mut Rng, checker: &mut Checker, container: &Container) {
     }
 }
 
-/// Pieces that begin at either end of the data, and of all of it; tests of all against its first bytes, which hold and
-/// do not; and a byte too little space.
+/// Pieces that begin at either end of the data, and of all of it; the same counted from the end; tests of all against
+/// its first bytes, which hold and do not; and a byte too little space.
 fn looking(rng: &mut Rng, checker: &mut Checker, container: &Container) {
     let size = container.data.len();
     let piece = |offset: usize, length: u32| Read {
@@ -413,6 +469,23 @@ fn looking(rng: &mut Rng, checker: &mut Checker, container: &Container) {
         assert_eq!(run_request(checker, container, request), 0);
     }
     assert_eq!(run_with_less_space(checker, container, &all), 7);
+    // All of it, from the first byte on, and from a byte before that.
+    let first_byte = -1 - size as i32;
+    for (offset, number) in [(first_byte, 0), (first_byte - 1, 4)] {
+        let length = u32::MAX;
+        let read = Request::Read(vec![Read { offset, length }]);
+        assert_eq!(run_request(checker, container, &read), number);
+        let test = Request::TestAndWrite(TestAndWrite {
+            tests: vec![Test {
+                offset,
+                length,
+                opcode: 5,
+                specimen: Vec::new(),
+            }],
+            ..write(-2, b"X")
+        });
+        assert_eq!(run_request(checker, container, &test), number);
+    }
     // The specimen is a prefix, or all of it.
     let specimen = container.data[..size.min(60_000)].to_vec();
     let (holds, fails) = if specimen.len() < size {
@@ -435,8 +508,8 @@ fn looking(rng: &mut Rng, checker: &mut Checker, container: &Container) {
     }
 }
 
-/// Requests one after the other on the longest container, each on what the one before left: samples far apart, cuts, and
-/// whatever else.
+/// Requests one after the other on the longest container, each on what the one before left: samples far apart, appends,
+/// cuts, and whatever else.
 fn history(rng: &mut Rng, checker: &mut Checker) {
     let mut container = histories::create(LONGEST, rng, checker);
     for turn in 0..24 {
@@ -446,6 +519,10 @@ fn history(rng: &mut Rng, checker: &mut Checker) {
                 let count = rng.within(1..=200);
                 let offset = rng.below(LONGEST - 472 - 92 * 60 - count);
                 Request::TestAndWrite(write(offset as i32, &rng.letters(count)))
+            }
+            1 => {
+                let count = rng.within(1..=200);
+                Request::TestAndWrite(write(-1, &rng.letters(count)))
             }
             2 => Request::TestAndWrite(TestAndWrite {
                 cut: Some(rng.below(parts.data.len() + 1) as u32),

@@ -43,9 +43,9 @@ impl Look {
         Look::ShortLacksAByte,
     ];
 
-    /// What an entry asks of so many bytes of data. Its offset is not negative.
-    fn of(offset: i32, length: u32, size: usize) -> Look {
-        let (start, size) = (offset as u64, size as u64);
+    /// What an entry that looks from a position on asks of so many bytes of data.
+    fn of(start: u64, length: u32, size: usize) -> Look {
+        let size = size as u64;
         let end = start + u64::from(length);
         match (start.cmp(&size), length, end.cmp(&size)) {
             (Ordering::Less, 0, _) => Look::NothingInside,
@@ -60,8 +60,8 @@ impl Look {
     }
 
     /// What an entry asks of the slack.
-    fn beside_slack(offset: i32, length: u32, container: &Container) -> Option<Look> {
-        let (start, size) = (offset as usize, container.data.len());
+    fn beside_slack(start: u64, length: u32, container: &Container) -> Option<Look> {
+        let (start, size) = (start as usize, container.data.len());
         let end = start + length as usize;
         if start < size && size < end && container.slack > 0 {
             return Some(Look::IntoTheSlack);
@@ -82,8 +82,8 @@ impl Look {
         ) else {
             return Vec::new();
         };
-        let entries = requests::extents(&request);
         let size = container.data.len();
+        let entries = requests::extents(&request, size);
         let needed = requests::reply_length(&request, &container);
         let looks = entries.iter().map(|entry| Look::of(entry.0, entry.1, size));
         match number {

@@ -3,10 +3,10 @@
 //!
 //! `BEAMSATCHEL_SEED` sets another seed, `BEAMSATCHEL_CASES` a longer run; with only some thousand
 //! cases a run does not meet all that is asked for, and fails for it. The run prints how often each
-//! outcome and each pair of outcomes was met, where tests and reads looked, what test-and-writes
-//! touched, where the count stood, what was met in long containers, and of which shapes shares to be
-//! written were; it fails where a possible one was not met, and at once where an impossible outcome
-//! is or a byte changed that a test-and-write leaves alone.
+//! outcome and each pair of outcomes was met, where tests and reads looked, what offsets from the end
+//! named, what test-and-writes touched, where the count stood, what was met in long containers, and of
+//! which shapes shares to be written were; it fails where a possible one was not met, and at once where
+//! an impossible outcome is or a byte changed that a test-and-write leaves alone.
 
 mod apart;
 mod case;
@@ -21,6 +21,7 @@ mod long;
 mod looks;
 mod new_share_pairs;
 mod new_shares;
+mod offsets;
 mod pairs;
 mod requests;
 mod rng;

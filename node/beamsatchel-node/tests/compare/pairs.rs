@@ -7,7 +7,7 @@ use crate::containers::{self, Sizes};
 use crate::requests;
 use crate::rng::Rng;
 use crate::tally::{Beside, Call};
-use beamsatchel_model::{Container, Lease, Read, Request, Test, TestAndWrite, Write};
+use beamsatchel_model::{grow, place, Container, Lease, Read, Request, Test, TestAndWrite, Write};
 
 const CALLS: [Call; 6] = [
     Call::TestAndWrite,
@@ -22,11 +22,15 @@ pub fn run(rounds: u64, rng: &mut Rng, checker: &mut Checker) {
     for call in CALLS {
         for pair @ (low, high) in call.pairs() {
             for &slack in call.slacks() {
-                for _ in 0..(rounds / 2).max(10) {
+                for round in 0..(rounds / 2).max(10) {
+                    let reaching = Reaching::ALL[round as usize % Reaching::ALL.len()];
                     for (flaws, number) in [(&[low][..], low), (&[high], high), (&[low, high], low)]
                     {
-                        let answer = checker.apply(&mut case(call, flaws, slack, rng));
-                        assert_eq!(answer.number, number, "{call:?} with flaws {flaws:?}");
+                        let answer = checker.apply(&mut case(call, flaws, slack, reaching, rng));
+                        assert_eq!(
+                            answer.number, number,
+                            "{call:?} with flaws {flaws:?}, {reaching:?}"
+                        );
                     }
                     checker.tally.pair(call, slack, pair);
                 }
@@ -35,12 +39,36 @@ pub fn run(rounds: u64, rng: &mut Rng, checker: &mut Checker) {
     }
 }
 
+/// What of a test-and-write reaches before the start of the data where flaw 4 is wanted.
+#[derive(Clone, Copy, Debug)]
+enum Reaching {
+    Test,
+    /// It would not on the data that the writes leave.
+    TestDespiteGrowth,
+    /// A write that meets the data as it is.
+    Write,
+    /// One behind another that makes the data grow, and not enough.
+    WriteDespiteGrowth,
+    /// One behind another that would make it grow enough, but is empty.
+    WriteBehindEmpty,
+}
+
+impl Reaching {
+    const ALL: [Reaching; 5] = [
+        Reaching::Test,
+        Reaching::TestDespiteGrowth,
+        Reaching::Write,
+        Reaching::WriteDespiteGrowth,
+        Reaching::WriteBehindEmpty,
+    ];
+}
+
 /// A case of a call with exactly these flaws, each named by its outcome.
-fn case(call: Call, flaws: &[u32], slack: Beside, rng: &mut Rng) -> Case {
+fn case(call: Call, flaws: &[u32], slack: Beside, reaching: Reaching, rng: &mut Rng) -> Case {
     let has = |flaw| flaws.contains(&flaw);
     let slack = slack.some(rng);
     let (container, request) = match call {
-        Call::TestAndWrite => test_and_write(&has, slack, rng),
+        Call::TestAndWrite => test_and_write(&has, slack, reaching, rng),
         Call::Add => add(&has, slack, rng),
         Call::Renew | Call::Cancel => renew_or_cancel(call, &has, slack, rng),
         _ => read(&has, slack, rng),
@@ -88,7 +116,12 @@ fn small_container(slack: usize, rng: &mut Rng) -> Container {
     containers::with(rng, sizes, 20)
 }
 
-fn test_and_write(has: &dyn Fn(u32) -> bool, slack: usize, rng: &mut Rng) -> (Container, Request) {
+fn test_and_write(
+    has: &dyn Fn(u32) -> bool,
+    slack: usize,
+    reaching: Reaching,
+    rng: &mut Rng,
+) -> (Container, Request) {
     let container = small_container(slack, rng);
     let size = container.data.len();
     let room = slack + container.length - container.used() as usize;
@@ -106,10 +139,7 @@ fn test_and_write(has: &dyn Fn(u32) -> bool, slack: usize, rng: &mut Rng) -> (Co
     }];
     let at = rng.below(size + 1);
     let count = rng.below(10);
-    let mut writes = vec![Write {
-        offset: at as i32,
-        data: rng.letters(count),
-    }];
+    let mut writes = vec![write_at(at as u64, &rng.letters(count))];
     if has(8) {
         tests.push(Test {
             offset: rng.pick(&[0, size as i32, i32::MAX]),
@@ -120,26 +150,10 @@ fn test_and_write(has: &dyn Fn(u32) -> bool, slack: usize, rng: &mut Rng) -> (Co
     }
     if has(11) {
         let past = rng.pick(&[1, 1, 2, 70_000]);
-        writes.push(Write {
-            offset: (size + room + past) as i32 - 1,
-            data: vec![b'Z'],
-        });
+        writes.push(write_at((size + room + past - 1) as u64, b"Z"));
     }
     if has(4) {
-        // The offset of an entry that would do nothing else counts as well.
-        let offset = rng.pick(&[-1, -2, i32::MIN]);
-        if rng.chance(50) {
-            let data = rng.pick(&[&b""[..], b"Z"]).to_vec();
-            writes.insert(rng.below(writes.len() + 1), Write { offset, data });
-        } else {
-            let test = Test {
-                offset,
-                length: rng.pick(&[0, 1]),
-                opcode: 5,
-                specimen: Vec::new(),
-            };
-            tests.insert(rng.below(tests.len() + 1), test);
-        }
+        reach_before_start(reaching, size as u64, &mut tests, &mut writes, rng);
     }
     let request = TestAndWrite {
         enabler,
@@ -148,6 +162,65 @@ fn test_and_write(has: &dyn Fn(u32) -> bool, slack: usize, rng: &mut Rng) -> (Co
         cut: None,
     };
     (container, Request::TestAndWrite(request))
+}
+
+/// Adds a test or a write that reaches before the start of the data, whose size before the request is this.
+fn reach_before_start(
+    reaching: Reaching,
+    size: u64,
+    tests: &mut Vec<Test>,
+    writes: &mut Vec<Write>,
+    rng: &mut Rng,
+) {
+    // What is before the start, but would not be with up to so many bytes more.
+    let lacking = |rng: &mut Rng, bytes: usize| -2 - size as i32 - rng.below(bytes) as i32;
+    let offset = match reaching {
+        Reaching::Test | Reaching::Write => before_start(rng, size),
+        Reaching::TestDespiteGrowth => {
+            writes.push(write_at(size + 7, b"Y"));
+            lacking(rng, 8)
+        }
+        Reaching::WriteDespiteGrowth => {
+            writes.push(write_at(size + 7, b"Y"));
+            let places = place(writes, size).expect("none before the start");
+            before_start(rng, places.iter().fold(size, grow))
+        }
+        Reaching::WriteBehindEmpty => {
+            writes.insert(0, write_at(size + 20, b""));
+            lacking(rng, 20)
+        }
+    };
+    // An entry that would do nothing counts as well.
+    let turn = match reaching {
+        Reaching::Test | Reaching::TestDespiteGrowth => {
+            let test = Test {
+                offset,
+                length: rng.pick(&[0, 1]),
+                opcode: 5,
+                specimen: Vec::new(),
+            };
+            return tests.insert(rng.below(tests.len() + 1), test);
+        }
+        Reaching::Write => 0,
+        Reaching::WriteDespiteGrowth => writes.len(),
+        Reaching::WriteBehindEmpty => 1,
+    };
+    let data = rng.pick(&[&b""[..], b"Z"]).to_vec();
+    writes.insert(turn, Write { offset, data });
+}
+
+/// An offset that reaches before the start of so much data: by a byte, by more, by as much as it can.
+fn before_start(rng: &mut Rng, size: u64) -> i32 {
+    let by_a_byte = -2 - size as i32;
+    let by_more = by_a_byte - rng.within(1..=60) as i32;
+    rng.pick(&[by_a_byte, by_a_byte, by_more, i32::MIN])
+}
+
+fn write_at(position: u64, data: &[u8]) -> Write {
+    Write {
+        offset: position as i32,
+        data: data.to_vec(),
+    }
 }
 
 fn add(has: &dyn Fn(u32) -> bool, slack: usize, rng: &mut Rng) -> (Container, Request) {
@@ -231,7 +304,7 @@ fn read(has: &dyn Fn(u32) -> bool, slack: usize, rng: &mut Rng) -> (Container, R
     }
     if has(4) {
         let read = Read {
-            offset: rng.pick(&[-1, -2, i32::MIN]),
+            offset: before_start(rng, size as u64),
             length: rng.pick(&[0, 1, 2]),
         };
         reads.insert(rng.below(reads.len() + 1), read);

@@ -1,8 +1,10 @@
-//! How often each outcome, each pair of outcomes, each look at the data, each touch of it, each place of the count,
-//! each thing in a long container and each shape of a new share was met.
+//! How often each outcome, each pair of outcomes, each look at the data, each thing that an offset from the end named,
+//! each touch of the data, each place of the count, each thing in a long container and each shape of a new share was
+//! met.
 
 use crate::long::Long;
 use crate::looks::Look;
+use crate::offsets::Named;
 use crate::rng::Rng;
 use crate::shapes::Shape;
 use crate::slacks::Slack;
@@ -120,6 +122,7 @@ pub struct Tally {
     outcomes: BTreeMap<(Call, u32), u64>,
     pairs: BTreeMap<(Call, Beside, u32, u32), u64>,
     looks: BTreeMap<(Call, Look), u64>,
+    named: BTreeMap<Named, u64>,
     touches: BTreeMap<Touch, u64>,
     slacks: BTreeMap<Slack, u64>,
     longs: BTreeMap<Long, u64>,
@@ -147,6 +150,12 @@ impl Tally {
     pub fn looks(&mut self, call: Call, looks: Vec<Look>) {
         for look in looks {
             *self.looks.entry((call, look)).or_default() += 1;
+        }
+    }
+
+    pub fn named(&mut self, named: impl IntoIterator<Item = Named>) {
+        for named in named {
+            *self.named.entry(named).or_default() += 1;
         }
     }
 
@@ -218,6 +227,13 @@ impl Tally {
                 .collect();
             println!("  {:>16}  {}", format!("{call:?}"), met.join(", "));
         }
+        println!("\nwhat offsets from the end named, and on which size:");
+        let met: Vec<String> = self
+            .named
+            .iter()
+            .map(|(named, count)| format!("{named:?}: {count}"))
+            .collect();
+        println!("  {}", met.join(", "));
         println!("\nwhat test-and-writes that were done touched, and no byte elsewhere:");
         let met: Vec<String> = self
             .touches
@@ -251,7 +267,8 @@ impl Tally {
         println!("  {}\n", met.join(", "));
     }
 
-    /// Every possible outcome, pair, look, touch, place of the count, long container and shape was met, and every N.
+    /// Every possible outcome, pair, look, offset from the end, touch, place of the count, long container and shape was
+    /// met, and every N.
     pub fn demand_all(&self) {
         for call in Call::ALL {
             for number in call.outcomes() {
@@ -273,6 +290,9 @@ impl Tally {
                 let met = self.looks.contains_key(&(call, look));
                 assert!(met, "{call:?}: {look:?} was never met");
             }
+        }
+        for named in Named::all() {
+            assert!(self.named.contains_key(&named), "{named:?} was never met");
         }
         for touch in Touch::ALL {
             assert!(self.touches.contains_key(&touch), "{touch:?} was never met");

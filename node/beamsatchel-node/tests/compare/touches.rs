@@ -1,7 +1,7 @@
 //! What done test-and-writes touched, and that no byte elsewhere changed.
 
 use crate::case::Case;
-use beamsatchel_model::{Container, Request, TestAndWrite};
+use beamsatchel_model::{place, Container, Request, TestAndWrite};
 use std::cmp::Ordering;
 use std::ops::Range;
 
@@ -127,7 +127,7 @@ fn beside_slack(request: &TestAndWrite, old: &Container, new: &Container) -> Vec
         (_, Ordering::Greater, false) => vec![Touch::GrowsPastTheSlack],
         (_, Ordering::Greater, true) => vec![Touch::GrowsPastTheSlackBesideExtras],
     };
-    for (start, end) in places(request) {
+    for Range { start, end } in places(request, old.data.len()) {
         if old.data.len() <= start {
             touches.push(match start.cmp(&slack_end) {
                 Ordering::Less => Touch::WriteBeginsInTheSlack,
@@ -154,7 +154,7 @@ fn of_writes(request: &TestAndWrite, size: usize, final_size: usize) -> Vec<Touc
     let mut touches = Vec::new();
     let mut reached = size;
     let mut gaps: Vec<Range<usize>> = Vec::new();
-    for (start, end) in places(request) {
+    for Range { start, end } in places(request, size) {
         touches.push(if end <= reached {
             Touch::WriteInside
         } else if start < reached {
@@ -180,13 +180,11 @@ fn of_writes(request: &TestAndWrite, size: usize, final_size: usize) -> Vec<Touc
     touches
 }
 
-/// Where the writes begin and end in the data, but for empty ones.
-fn places(request: &TestAndWrite) -> impl Iterator<Item = (usize, usize)> + '_ {
-    let writes = request.writes.iter().filter(|write| !write.data.is_empty());
-    writes.map(|write| {
-        let start = usize::try_from(write.offset).expect("not negative, or it was refused");
-        (start, start + write.data.len())
-    })
+/// Where the writes of a request that was done went in data of this size, but for empty ones.
+fn places(request: &TestAndWrite, size: usize) -> impl Iterator<Item = Range<usize>> {
+    let places = place(&request.writes, size as u64).expect("or it was refused");
+    let places = places.into_iter().filter(|place| !place.is_empty());
+    places.map(|place| place.start as usize..place.end as usize)
 }
 
 /// Outside the fields, the written bytes that remain and the stretch from the lower data end to the
@@ -208,7 +206,7 @@ fn demand_elsewhere(
     may_change[SIZE_FIELD].fill(old_end != data_end);
     may_change[OFFSET_FIELD].fill(old.count() != new.count());
     may_change[from..to].fill(true);
-    for (start, end) in places(request) {
+    for Range { start, end } in places(request, old.data.len()) {
         let written = (DATA + start).min(data_end)..(DATA + end).min(data_end);
         may_change[written].fill(true);
     }

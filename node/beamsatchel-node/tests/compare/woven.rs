@@ -6,6 +6,7 @@ use crate::case::Case;
 use crate::checker::Checker;
 use crate::containers::MAX_LENGTH;
 use crate::histories::{create, next_request};
+use crate::offsets::{appends, Named};
 use crate::requests;
 use crate::rng::Rng;
 use beamsatchel_model::{self as model, Container, Request};
@@ -42,6 +43,11 @@ pub fn run(cases: u64, rng: &mut Rng, checker: &mut Checker) {
         assert_eq!(first.data, second.data, "reads and test-and-writes");
         assert_eq!(first.leases, second.leases, "lease requests");
         assert_eq!(first.container, second.container, "final containers");
+        for ((request, _), (answer, _)) in data.iter().zip(&first.data) {
+            if answer.number == 0 && appends(request) {
+                checker.tally.named([Named::AppendInWovenHistories]);
+            }
+        }
     }
     println!("{compared} pairs of histories are equal; {no_room} met \"no room\"");
     assert!(compared >= no_room, "most pairs are to be compared");

@@ -56,7 +56,7 @@ fn offsets_and_lengths(rng: &mut Rng, checker: &mut Checker) {
         let size = size as i32;
         let offsets = (-2..=2)
             .chain(size - 1..=size + 1)
-            .chain(-size - 1..=-size)
+            .chain(-size - 3..=-size)
             .chain(327..=329) // the end of the room
             .chain(MAX_DATA as i32 - 1..=MAX_DATA as i32 + 1)
             .chain(16_776_743..=16_776_745) // the end of the longest data

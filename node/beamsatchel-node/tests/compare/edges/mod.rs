@@ -1,6 +1,7 @@
 //! Sizes, offsets and counts at and one past each edge.
 
 mod buffers;
+mod ends;
 mod entries;
 mod leases;
 mod replies;
@@ -19,6 +20,7 @@ pub fn run(rng: &mut Rng, checker: &mut Checker) {
     room::run(checker);
     slack::run(rng, checker);
     entries::run(rng, checker);
+    ends::run(rng, checker);
     replies::run(rng, checker);
     leases::run(rng, checker);
 }

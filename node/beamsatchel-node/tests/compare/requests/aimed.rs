@@ -3,7 +3,7 @@
 
 use crate::containers::{self, expiry, lease, token};
 use crate::rng::Rng;
-use beamsatchel_model::{Container, Read, Request, Test, TestAndWrite, Write};
+use beamsatchel_model::{grow, resolve, Container, Read, Request, Test, TestAndWrite, Write};
 
 /// A request with good format, aimed at a container.
 pub fn any(rng: &mut Rng, container: &Container) -> Request {
@@ -47,8 +47,12 @@ fn test_and_write(rng: &mut Rng, container: &Container) -> TestAndWrite {
         enabler[rng.below(32)] ^= 1 << rng.below(8);
     }
     let tests = (0..entries(rng)).map(|_| test(rng, container)).collect();
-    let writes: Vec<Write> = (0..entries(rng)).map(|_| write(rng, container)).collect();
-    let cut = rng.chance(40).then(|| cut(rng, container, &writes));
+    let (writes, grown) = writes(rng, container);
+    // Of what reaches far past the room, nothing is done without a cut.
+    let far = grown > containers::MAX_LENGTH as u64;
+    let cut = rng
+        .chance(if far { 85 } else { 40 })
+        .then(|| cut(rng, container, grown));
     TestAndWrite {
         enabler,
         tests,
@@ -71,7 +75,7 @@ fn entries(rng: &mut Rng) -> usize {
 fn test(rng: &mut Rng, container: &Container) -> Test {
     let size = container.data.len();
     let (offset, length) = extent(rng, container);
-    let start = size.min(offset.max(0) as usize);
+    let start = size.min(position(offset, size as u64));
     let piece = &container.data[start..size.min(start + length as usize)];
     let specimen = specimen(rng, piece);
     let holding: &[u8] = match piece.cmp(&specimen) {
@@ -117,11 +121,32 @@ fn specimen(rng: &mut Rng, piece: &[u8]) -> Vec<u8> {
     specimen
 }
 
-fn write(rng: &mut Rng, container: &Container) -> Write {
-    let offset = offset(rng, container);
+/// Writes, each aimed at the data that those before it give, and the size that they all give.
+fn writes(rng: &mut Rng, container: &Container) -> (Vec<Write>, u64) {
+    let mut size = container.data.len() as u64;
+    let mut writes = Vec::new();
+    for number in 0..entries(rng) {
+        let mut write = write(rng, container, size);
+        if number == 0 && rng.chance(3) {
+            // Far enough that the lowest offset names a byte of the data, or just not.
+            write.offset = i32::MAX - rng.below(4) as i32;
+            write.data.truncate(rng.below(4));
+        }
+        // What reaches before the start is refused, whatever it would write.
+        if let Some(start) = resolve(write.offset, size) {
+            size = grow(size, &(start..start + write.data.len() as u64));
+        }
+        writes.push(write);
+    }
+    (writes, size)
+}
+
+fn write(rng: &mut Rng, container: &Container, met: u64) -> Write {
+    let offset = offset(rng, container, met);
     let slack_end = (container.data.len() + container.slack) as i64;
     let room = (container.length - 472 - 92 * container.extras()) as i64;
-    let up_to = |end: i64| (end - i64::from(offset)).clamp(0, 2000) as usize;
+    let start = position(offset, met) as i64;
+    let up_to = |end: i64| (end - start).clamp(0, 2000) as usize;
     let count = match rng.below(100) {
         0..10 => 0,
         10..75 => rng.within(1..=20),
@@ -137,12 +162,9 @@ fn write(rng: &mut Rng, container: &Container) -> Write {
     }
 }
 
-fn cut(rng: &mut Rng, container: &Container, writes: &[Write]) -> u32 {
+fn cut(rng: &mut Rng, container: &Container, grown: u64) -> u32 {
     let size = container.data.len() as u32;
-    let grown = writes
-        .iter()
-        .map(|write| write.offset.max(0) as u32 + write.data.len() as u32)
-        .fold(size, u32::max);
+    let grown = grown as u32;
     match rng.below(10) {
         0 => 0,
         1 => grown.saturating_sub(1),
@@ -165,18 +187,25 @@ fn reads(rng: &mut Rng, container: &Container) -> Vec<Read> {
 
 /// Where a test or a read looks, and at how many bytes.
 fn extent(rng: &mut Rng, container: &Container) -> (i32, u32) {
-    let offset = offset(rng, container);
-    (offset, length(rng, container.data.len(), offset))
+    let size = container.data.len();
+    let offset = offset(rng, container, size as u64);
+    (offset, length(rng, size, position(offset, size as u64)))
 }
 
-/// An offset inside the data, a little past it, or beside the slack's end; seldom the largest, seldom negative.
-fn offset(rng: &mut Rng, container: &Container) -> i32 {
+/// The position that an offset names; 0 where it reaches before the start.
+fn position(offset: i32, size: u64) -> usize {
+    resolve(offset, size).unwrap_or(0) as usize
+}
+
+/// An offset inside the data, a little past it, or beside the slack's end; seldom the largest. Now and then it counts
+/// from the end of the data that the entry meets.
+fn offset(rng: &mut Rng, container: &Container, met: u64) -> i32 {
     let size = container.data.len();
     match rng.below(200) {
-        0..120 => rng.below(size + 1) as i32,
-        120..175 => (size + rng.below(30)) as i32,
-        175..190 => (size + container.slack + rng.below(3)).saturating_sub(1) as i32,
-        190..197 => {
+        0..96 => rng.below(size + 1) as i32,
+        96..140 => (size + rng.below(30)) as i32,
+        140..152 => (size + container.slack + rng.below(3)).saturating_sub(1) as i32,
+        152..158 => {
             // the last place of the longest data here, the next one, and the same of the longest there is
             let last = containers::MAX_DATA as i32 - 1;
             rng.pick(&[
@@ -188,12 +217,28 @@ fn offset(rng: &mut Rng, container: &Container) -> i32 {
                 16_776_744,
             ])
         }
-        _ => rng.pick(&[-1, -2, i32::MIN, i32::MIN + 1, -(size as i32) - 1]),
+        _ => offset_from_end(rng, size, met),
     }
 }
 
-fn length(rng: &mut Rng, size: usize, offset: i32) -> u32 {
-    let rest = size.saturating_sub(offset.max(0) as usize);
+/// An offset that counts from the end of so much data: the end, the last byte, the first byte or beside it, any other
+/// position of the data that there was before the request; seldom one before the start, or the lowest that there is.
+fn offset_from_end(rng: &mut Rng, size: usize, met: u64) -> i32 {
+    let first = -1 - met as i64;
+    let offset = match rng.below(100) {
+        0..35 => -1,
+        35..50 => -2,
+        50..62 => first + rng.pick(&[0, 0, 1]),
+        62..93 => first + rng.below(size + 1) as i64,
+        93..96 => first - 1,
+        96 => first - 1 - rng.below(40) as i64,
+        _ => i64::from(i32::MIN) + rng.pick(&[0, 0, 1]),
+    };
+    offset.clamp(i64::from(i32::MIN), -1) as i32
+}
+
+fn length(rng: &mut Rng, size: usize, position: usize) -> u32 {
+    let rest = size.saturating_sub(position);
     match rng.below(10) {
         0 => 0,
         1 => 1,

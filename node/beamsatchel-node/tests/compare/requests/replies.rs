@@ -1,9 +1,10 @@
 use crate::rng::Rng;
-use beamsatchel_model::{Container, Request};
+use beamsatchel_model::{resolve, Container, Request};
 
-/// Where the tests of a test-and-write, or the reads of a read, look, and at how many bytes.
-pub fn extents(request: &Request) -> Vec<(i32, u32)> {
-    match request {
+/// Where the tests of a test-and-write, or the reads of a read, look in data of this size, and at how many bytes. What
+/// reaches before the start looks nowhere.
+pub fn extents(request: &Request, size: usize) -> Vec<(u64, u32)> {
+    let entries: Vec<(i32, u32)> = match request {
         Request::TestAndWrite(request) => {
             let tests = request.tests.iter();
             tests.map(|test| (test.offset, test.length)).collect()
@@ -13,15 +14,23 @@ pub fn extents(request: &Request) -> Vec<(i32, u32)> {
             reads.map(|read| (read.offset, read.length)).collect()
         }
         _ => Vec::new(),
-    }
+    };
+    let looks = entries.into_iter().filter_map(|(offset, length)| {
+        let position = resolve(offset, size as u64)?;
+        Some((position, length))
+    });
+    looks.collect()
 }
 
 /// The reply's length on a well-formed container.
 pub fn reply_length(request: &Request, container: &Container) -> usize {
-    let pieces = extents(request).into_iter().map(|(offset, length)| {
-        let rest = container.data.len().saturating_sub(offset.max(0) as usize);
-        4 + rest.min(length as usize)
-    });
+    let size = container.data.len();
+    let pieces = extents(request, size)
+        .into_iter()
+        .map(|(position, length)| {
+            let rest = size.saturating_sub(position as usize);
+            4 + rest.min(length as usize)
+        });
     pieces.sum()
 }
 
