@@ -14,7 +14,7 @@ use Rattle.format.proofs.RoundTrip.{parts-encode, data-encode}
 use Rattle.rules.specs.Requests.{requestOf, kindOf, testWriteOf}
 use Rattle.rules.specs.Changes.{changesOf}
 use Rattle.rules.specs.Offsets.{positionsOf}
-use Rattle.rules.specs.Outcomes.{withBytes, withLeases, after, afterOf, rows, requestRows, replies, counted}
+use Rattle.rules.specs.Outcomes.{withBytes, withLeases, after, afterOf, rows, replies, counted}
 use Rattle.rules.specs.Outcomes.{answerTo, replyTo, replyBytes, answered, replyAfter, admitRows}
 use Rattle.rules.specs.Outcomes.{findRows}
 use Rattle.octets.specs.Rows.{firstRow}

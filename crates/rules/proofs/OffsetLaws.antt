@@ -1,4 +1,4 @@
--- Offsets: the whole number that one stands for, and what it is resolved to. Assumes nothing.
+-- Offsets: the whole number that one stands for, what it is resolved to, and writes behind others. Assumes nothing.
 use mathlib.Core.Path.{_≡_, refl, sym, ap, _∙_}
 use mathlib.Core.Bool.{Bool, true, false, false≢true}
 use mathlib.Core.List.{List, [], _∷_, _++_, append-nil}
@@ -9,7 +9,6 @@ use lib.ListN.{length, take, drop, drop-of-length-le}
 use lib.Seq.{take-all}
 use lib.Dec.{leb, ltb→lt, le→leb}
 use lib.IntN.{ℤ, pos, negsuc, natAbs, pos-ne-negsuc}
-use lib.Signed.{_≤ℤ_, _<ℤ_}
 use borrow.Author.Tests.{leb-true, leb-false, le-leb, lt-ltb, le-ltb}
 use Rattle.octets.specs.Facts.{Each}
 use Rattle.octets.specs.Lists.{isSome, orElse, every}
@@ -32,11 +31,11 @@ named-below k n h =
     let e : suc k - suc (n + 1) ≡ k - suc n = omega arith in rw (lt-ltb (n + 1) (suc k) (omega arith), e)
 
 -- ---- what an offset comes to on a size: a position, or a number below 0
-pub data Comes (o : ℤ) (n : ℕ) : Type 0 where
+data Comes (o : ℤ) (n : ℕ) : Type 0 where
   to : (p : ℕ) → resolve o n ≡ some p → named o n ≡ pos p → Comes o n
   below : (k : ℕ) → resolve o n ≡ none → named o n ≡ negsuc k → Comes o n
 
-pub comes : (o : ℤ) (n : ℕ) → Comes o n
+comes : (o : ℤ) (n : ℕ) → Comes o n
 unfolding resolve named
 comes (pos p) n = to p refl refl
 comes (negsuc k) n = go (leb k n) refl

@@ -4,12 +4,11 @@ use mathlib.Core.Bool.{Bool, true, false, cond, not, true≢false, _&&_}
 use mathlib.Core.List.{List, [], _∷_, _++_, map, append-nil, append-assoc}
 use mathlib.Core.Option.{Option, none, some}
 use mathlib.Core.Logic.{_↔_}
-use Prim.Native.Nat.{ℕ, suc, _+_, _-_}
+use Prim.Native.Nat.{ℕ}
 use native.Mathlib.Omega.{arith}
-use lib.ListN.{length, take, drop, drop-of-length-le}
-use lib.Seq.{take-all}
+use lib.ListN.{length}
 use lib.IntN.{ℤ, negsuc}
-use borrow.Author.Tests.{not-false, le-leb}
+use borrow.Author.Tests.{not-false}
 use Rattle.octets.specs.Facts.{Each}
 use Rattle.octets.specs.Lists.{isSome, orElse, every, maybe}
 use Rattle.octets.specs.Rows.{Row, row, firstRow}
@@ -22,7 +21,7 @@ use Rattle.format.specs.Parts.{Parts, partsOf}
 use Rattle.format.proofs.RoundTrip.{parts-encode}
 use Rattle.rules.specs.Requests.{Test, Write, Request, testWrite, add, renew, cancel, read, requestOf}
 use Rattle.rules.specs.Testing.{resolve, resolves, position}
-use Rattle.rules.specs.Writing.{Placed, grow, placed, padTo, writeAt, writeAll, writesResolve, cutTo, rewritten}
+use Rattle.rules.specs.Writing.{Placed, grow, placed, writesResolve, writeAll, cutTo, rewritten}
 use Rattle.rules.specs.Outcomes.{withBytes, after, afterOf, rows, admitRows, findRows, roomRows, requestRows}
 use Rattle.rules.specs.Outcomes.{outcome, answered, containerAfter}
 use Rattle.rules.specs.Offsets.{writePositions, positionsOf, OffsetsResolve}
