@@ -19,7 +19,7 @@ use Rattle.rules.specs.Testing.{resolve, position}
 use Rattle.rules.specs.Writing.{grow, Placed, writeAt, writeAll, cutTo, rewritten}
 use Rattle.rules.specs.Outcomes.{answered, containerAfter}
 
--- The whole number that an offset stands for on data of size n: itself, or, where it is negative, n + 1 + o (T1).
+-- The whole number that an offset x stands for on data of size n: itself, or, where it is negative, n + 1 + x (T1).
 unfoldable pub named : ℤ → ℕ → ℤ
 named (pos p) n = pos p
 named (negsuc k) n = pos n +ℤ pos 1 +ℤ negsuc k

@@ -48,7 +48,7 @@ use crate::requests::BuildError;
 /// let request = TestAndWrite::new(WriteEnabler::new([1; 32])).write(1_i32, b"AB");
 /// ```
 ///
-/// A number without a sign does:
+/// A `u32` does, and a literal without a sign:
 ///
 /// ```
 /// # use beamsatchel_node::{TestAndWrite, WriteEnabler};

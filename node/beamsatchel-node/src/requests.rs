@@ -122,7 +122,8 @@ impl TestAndWrite {
     }
 
     /// Adds a test of the data at an [`Offset`], at most `length` bytes and stopping at the end of data. All tests look
-    /// at the data as it is before any write.
+    /// at the data as it is before any write. One that would begin before byte 0 is not false: the whole request is
+    /// refused, with [`OffsetBeforeStart`](crate::Reason::OffsetBeforeStart).
     pub fn test(
         mut self,
         offset: impl Into<Offset>,
@@ -157,10 +158,12 @@ impl TestAndWrite {
         Ok(self)
     }
 
-    /// Adds a write at the end of the data, as the writes before it in this request leave it.
+    /// Adds a write at the end of the data, as the writes before it in this request leave it. A cut of the same request
+    /// comes after it, in whatever order the two are called, and may take it away again: to append behind a cut, send
+    /// two requests.
     ///
     /// ```
-    /// use beamsatchel_node::{Container, NodeId, TestAndWrite, WriteEnabler};
+    /// use beamsatchel_node::{Container, NodeId, Offset, Opcode, TestAndWrite, WriteEnabler};
     ///
     /// # fn main() -> Result<(), beamsatchel_node::Error> {
     /// let enabler = WriteEnabler::new([1; 32]);
@@ -169,6 +172,15 @@ impl TestAndWrite {
     /// let request = TestAndWrite::new(enabler).write(2, b"C")?.append(b"D")?.append(b"E")?;
     /// assert!(slot.test_and_write(&request, &mut [])?.is_done());
     /// assert_eq!(slot.view()?.data(), b"\0\0CDE");
+    ///
+    /// // Sent again, it would stand there twice. A test of the bytes that were last before it prevents that, where the
+    /// // data with the new bytes ends in others, as with records of one length that differ.
+    /// let request = TestAndWrite::new(enabler)
+    ///     .test(Offset::FromEnd(2), 2, Opcode::Equal, b"DE")?
+    ///     .append(b"FG")?;
+    /// assert!(slot.test_and_write(&request, &mut [0; 6])?.is_done());
+    /// assert!(!slot.test_and_write(&request, &mut [0; 6])?.is_done());
+    /// assert_eq!(slot.view()?.data(), b"\0\0CDEFG");
     /// # Ok(())
     /// # }
     /// ```

@@ -220,7 +220,12 @@ fn rows() -> Vec<Row> {
         },
         Row {
             number: 11,
-            ..done("append a byte to much data", Much, append(b"Z"), data(0, 0))
+            ..done(
+                "append a byte too many to much data",
+                Much,
+                append(b"Z"),
+                data(0, 0),
+            )
         },
         Row {
             number: 4,
