@@ -4,9 +4,9 @@ use mathlib.Core.Path.{_≡_, refl, sym, ap, _∙_}
 use mathlib.Core.Bool.{Bool, true, false, cond}
 use mathlib.Core.List.{List, [], _∷_, _++_, append-assoc, append-nil}
 use mathlib.Core.Option.{Option, none, some}
-use Prim.Native.Nat.{ℕ, _+_, _-_, _≤_, _<_}
+use Prim.Native.Nat.{ℕ, _+_, _≤_, _<_}
 use lib.ListN.{length, getD, drop}
-use lib.Seq.{getD-take, getD-drop}
+use lib.Seq.{getD-take, getD-drop, drop-append-seam}
 use lib.Dec.{leb}
 use native.Mathlib.Omega.{arith}
 use lib.IntN.{ℤ}
@@ -29,7 +29,7 @@ use Rattle.histories.specs.Accepted.{took, accepted}
 use Rattle.histories.specs.Incident.{Cuts, laterChanges, Untouched, middle, end, Forgets, Appends, ForgetsAppend}
 use Rattle.histories.specs.Incident.{Incident, IncidentInUse}
 use Rattle.histories.proofs.Demand3.{size-final, each-final}
-use Rattle.octets.proofs.ListLaws.{lastSaid-append, newer-assoc, at-app-right}
+use Rattle.octets.proofs.ListLaws.{lastSaid-append, newer-assoc}
 
 -- ---- what was said before a cut is forgotten
 zero-under : (x y : Option ℕ) (z : ℕ) → orElse (newer (newer y (some 0)) x) z ≡ orElse x 0
@@ -150,8 +150,8 @@ module _ (p : Parts) (v : Valid p) (before : List Call) (x : Call) (after : List
   forgets = record {
     bytes = incident-byte;
     reads = incident-read;
-    short = incident-short;
     zeros = λ i h u. incident-byte i h ∙ untouched-zero since i u;
+    short = incident-short;
   }
 
 -- ---- an append behind all that
@@ -180,17 +180,16 @@ module _ (p : Parts) (v : Valid p) (before : List Call) (x : Call) (after : List
       ∙ ap dataOf (final-append (h ++ after) (y ∷ []) (encode p))
       ∙ append-leaves y (end (encode p) before x after) bs adds
 
-  at-cut : after ≡ [] → length (dataOf (middle (encode p) before x)) ≡ m → (j : ℕ) →
-      getD (dataOf (end (encode p) before x (after ++ (y ∷ [])))) (m + j) 0 ≡ getD bs j 0
-  at-cut e n j =
+  at-cut : after ≡ [] → length (dataOf (middle (encode p) before x)) ≡ m →
+      drop m (dataOf (end (encode p) before x (after ++ (y ∷ [])))) ≡ bs
+  at-cut e n =
       let d : List ℕ = dataOf (middle (encode p) before x) in
       let f : dataOf (end (encode p) before x after) ≡ d =
       ap (λ (l : List Call). dataOf (final leaves (h ++ l) (encode p))) e
       ∙ ap (λ (l : List Call). dataOf (final leaves l (encode p))) (append-nil h) in
-      let k : m + j - length d ≡ j = omega (arith, n) in
-      ap (λ (l : List ℕ). getD l (m + j) 0) (behind ∙ ap (λ (l : List ℕ). l ++ bs) f)
-      ∙ at-app-right d bs (m + j) (omega (arith, n))
-      ∙ ap (λ (i : ℕ). getD bs i 0) k
+      ap (λ (l : List ℕ). drop m l) (behind ∙ ap (λ (l : List ℕ). l ++ bs) f)
+      ∙ ap (λ (i : ℕ). drop i (d ++ bs)) (sym n)
+      ∙ drop-append-seam d bs
 
   forgets-append : ForgetsAppend (encode p) before x after y m bs
   forgets-append = record {

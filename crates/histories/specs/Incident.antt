@@ -5,7 +5,7 @@ use mathlib.Core.Path.{_≡_}
 use mathlib.Core.Bool.{true, false}
 use mathlib.Core.List.{List, [], _∷_, _++_, map}
 use mathlib.Core.Option.{none, some}
-use lib.ListN.{length, getD}
+use lib.ListN.{length, getD, drop}
 use lib.IntN.{ℤ, negsuc}
 use Rattle.format.specs.Container.{wellFormed}
 use Rattle.format.specs.Layout.{dataOf}
@@ -50,11 +50,11 @@ pub record Forgets (c : List ℕ) (before : List Call) (x : Call) (after : List 
   pub reads : (o : ℤ) (p n j : ℕ) → resolve o (length (dataOf (end c before x after))) ≡ some p → j < n → m ≤ p + j →
       getD (piece (dataOf (end c before x after)) o n) j 0
       ≡ byteAfter (laterChanges after (middle c before x)) (p + j)
-  -- right after x there are at most m bytes
-  pub short : length (dataOf (middle c before x)) ≤ m
   -- a place that none of those calls wrote holds zero
   pub zeros : (i : ℕ) → m ≤ i → Each (Untouched i) (laterChanges after (middle c before x)) →
       getD (dataOf (end c before x after)) i 0 ≡ 0
+  -- right after x there are at most m bytes
+  pub short : length (dataOf (middle c before x)) ≤ m
 
 -- On container bytes c the call is a test-and-write that is done, writes at -1 alone, all of it the bytes bs, and does
 -- not cut.
@@ -72,9 +72,9 @@ pub record ForgetsAppend (c : List ℕ) (before : List Call) (x : Call) (after :
     (bs : List ℕ) : Type 0 where
   -- the data is what it was before y, with bs behind it and no byte between
   pub behind : dataOf (end c before x (after ++ (y ∷ []))) ≡ dataOf (end c before x after) ++ bs
-  -- where nothing came between x and y, and x left m bytes, bs stands at m
-  pub at-cut : after ≡ [] → length (dataOf (middle c before x)) ≡ m → (j : ℕ) →
-      getD (dataOf (end c before x (after ++ (y ∷ [])))) (m + j) 0 ≡ getD bs j 0
+  -- where nothing came between x and y, and x left m bytes, bs stands at m, and nothing behind it
+  pub at-cut : after ≡ [] → length (dataOf (middle c before x)) ≡ m →
+      drop m (dataOf (end c before x (after ++ (y ∷ [])))) ≡ bs
   -- nothing from before x shows at or above m: there is what the calls after x put there, y among them, otherwise zero
   pub forgets : Forgets c before x (after ++ (y ∷ [])) m
 

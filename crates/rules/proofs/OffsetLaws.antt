@@ -182,12 +182,17 @@ module _ (us : List Write) (w : Write) (d : List ℕ) where
   unfolding rewritten cutTo
   cut-last m = refl
 
+  none-left : rewritten [] none d ≡ d
+  unfolding rewritten cutTo placed writeAll
+  none-left = refl
+
   -- THE NEXT WRITE
   pub next-write : NextWrite us w d
   unfolding position orElse
   next-write =
       let e : List ℕ = rewritten us none d in
       record {
+        none-before = none-left;
         made = λ p f. next-is ∙ rw f refl;
         appended = λ f. next-is
             ∙ ap (λ (p : ℕ). writeAt e p (w .bytes)) (rw f (end-position (length e))) ∙ write-end e (w .bytes);

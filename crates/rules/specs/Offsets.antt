@@ -58,6 +58,8 @@ pub record Resolving (o : ℤ) (n : ℕ) : Type 0 where
 
 -- Of a write w behind others, us, on any data d: it meets the data that these leave (D10).
 pub record NextWrite (us : List Write) (w : Write) (d : List ℕ) : Type 0 where
+  -- no writes leave the data as it is
+  pub none-before : rewritten [] none d ≡ d
   -- it is made there, at the position p that its offset names on the size that this data has
   pub made : (p : ℕ) → resolve (w .offset) (length (rewritten us none d)) ≡ some p →
       rewritten (us ++ (w ∷ [])) none d ≡ writeAt (rewritten us none d) p (w .bytes)
@@ -74,7 +76,8 @@ pub record OffsetsResolve (c q r : List ℕ) : Type 0 where
   -- so it depends on request and data size alone: any good container with data of that size gives it, beside any space
   pub alone : (b s : List ℕ) → wellFormed b ≡ true → wellFormed c ≡ true → length (dataOf b) ≡ length (dataOf c) →
       (answered b q s .number ≡ 4) ↔ (answered c q r .number ≡ 4)
-  -- a test-and-write that is done makes its writes, ps, at the positions that its offsets name, and then its cut
+  -- a test-and-write that is done, so that each of its offsets names one, makes its writes, ps, at the positions that
+  -- these name, and then its cut
   pub written : (k : List ℕ) (ts : List Test) (ws : List Write) (cut : Option ℕ) →
       requestOf q ≡ some (testWrite k ts ws cut) → answered c q r .number ≡ 0 → (ps : List Placed) →
       map (λ w. some (w .at)) ps ≡ writePositions ws (length (dataOf c)) →

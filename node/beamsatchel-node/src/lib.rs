@@ -51,7 +51,7 @@
 //! nothing that takes minutes, in which cargo shows nothing. On a machine without the Rattle kit, `BEAMSATCHEL_ARCHIVE`
 //! names an archive that was made elsewhere, of the same version as this crate; a relative path is relative to where
 //! cargo is started. One of another version may link all the same, and goes by its own version's rules: only a program
-//! that calls what it lacks does not link. One before 0.6 refuses every append with
+//! that calls what it lacks does not link. One before 0.6 refuses every offset from the end, appends too, with
 //! [`OffsetBeforeStart`](Reason::OffsetBeforeStart).
 
 #![warn(missing_docs)]

@@ -173,8 +173,8 @@ impl TestAndWrite {
     /// assert!(slot.test_and_write(&request, &mut [])?.is_done());
     /// assert_eq!(slot.view()?.data(), b"\0\0CDE");
     ///
-    /// // Sent again, it would stand there twice. A test of the bytes that were last before it prevents that, where the
-    /// // data with the new bytes ends in others, as with records of one length that differ.
+    /// // An append that is sent again stands there twice. A test of the bytes that were last before it prevents that,
+    /// // where the data does not end in them again: with records of one length, no two of them the same, it does not.
     /// let request = TestAndWrite::new(enabler)
     ///     .test(Offset::FromEnd(2), 2, Opcode::Equal, b"DE")?
     ///     .append(b"FG")?;
