@@ -4,7 +4,7 @@ ghost use Rattle.rules.specs.Outcomes.{createAnswer, createdContainer, answered
 ghost use Rattle.container.specs.Looking.{readOf};
 ghost use Rattle.shares.specs.Share.{checkedOf, checkedContainer};
 ghost use lib.ListN.{length};
-ghost use Rattle.share_writing.specs.Writing.{shareWith, writtenAnswer, spaceAfter};
+ghost use Rattle.share_writing.specs.Writing.{sdmfWith, mdmfWith, writtenAnswer, spaceAfter};
 use rules::Answer;
 use share_writing::Written;
 use shares::share::Checked;
@@ -49,7 +49,7 @@ pub extern "C" fn beamsatchel_check_container(c: &[u8]) -> Checked
 }
 
 #[no_mangle]
-pub extern "C" fn beamsatchel_write_share(
+pub extern "C" fn beamsatchel_write_sdmf(
     sequence: u64,
     root: &[u8],
     iv: &[u8],
@@ -66,18 +66,18 @@ pub extern "C" fn beamsatchel_write_share(
 ) -> Written
     ensures answer { λ r. ⌜ r
         ≡ writtenAnswer
-        (shareWith sequence (now (root .entry)) (now (iv .entry)) required total data_length (now (key .entry))
+        (sdmfWith sequence (now (root .entry)) (now (iv .entry)) required total data_length (now (key .entry))
         (now (signature .entry)) (now (chain .entry)) (now (tree .entry)) (now (share_data .entry))
         (now («private_key» .entry)))
         (length (now (d .entry))) ⌝ }
     ensures space { λ _. ⌜ now (d .exit)
         ≡ spaceAfter
-        (shareWith sequence (now (root .entry)) (now (iv .entry)) required total data_length (now (key .entry))
+        (sdmfWith sequence (now (root .entry)) (now (iv .entry)) required total data_length (now (key .entry))
         (now (signature .entry)) (now (chain .entry)) (now (tree .entry)) (now (share_data .entry))
         (now («private_key» .entry)))
         (now (d .entry)) ⌝ }
 {
-    share_writing::write_share(
+    share_writing::write_sdmf(
         sequence,
         root,
         iv,
@@ -90,6 +90,54 @@ pub extern "C" fn beamsatchel_write_share(
         tree,
         share_data,
         private_key,
+        d,
+    )
+}
+
+#[no_mangle]
+pub extern "C" fn beamsatchel_write_mdmf(
+    sequence: u64,
+    root: &[u8],
+    required: u8,
+    total: u8,
+    segment_size: u64,
+    data_length: u64,
+    private_key: &[u8],
+    chain: &[u8],
+    signature: &[u8],
+    key: &[u8],
+    spare: &[u8],
+    share_data: &[u8],
+    tree: &[u8],
+    d: &mut [u8],
+) -> Written
+    ensures answer { λ r. ⌜ r
+        ≡ writtenAnswer
+        (mdmfWith sequence (now (root .entry)) required total «segment_size» data_length (now («private_key» .entry))
+        (now (chain .entry)) (now (signature .entry)) (now (key .entry)) (now (spare .entry))
+        (now (share_data .entry)) (now (tree .entry)))
+        (length (now (d .entry))) ⌝ }
+    ensures space { λ _. ⌜ now (d .exit)
+        ≡ spaceAfter
+        (mdmfWith sequence (now (root .entry)) required total «segment_size» data_length (now («private_key» .entry))
+        (now (chain .entry)) (now (signature .entry)) (now (key .entry)) (now (spare .entry))
+        (now (share_data .entry)) (now (tree .entry)))
+        (now (d .entry)) ⌝ }
+{
+    share_writing::write_mdmf(
+        sequence,
+        root,
+        required,
+        total,
+        segment_size,
+        data_length,
+        private_key,
+        chain,
+        signature,
+        key,
+        spare,
+        share_data,
+        tree,
         d,
     )
 }

@@ -1,6 +1,6 @@
 -- What is lent lies inside the container and is its data. Assumes nothing.
 use mathlib.Core.Path.{_≡_, refl}
-use mathlib.Core.Bool.{Bool, true, false, not}
+use mathlib.Core.Bool.{Bool, true, false, cond, not}
 use mathlib.Core.List.{List, [], _∷_}
 use Prim.Native.Nat.{ℕ, _+_, _-_, _≤_}
 use native.Mathlib.Nat.{add-comm}
@@ -70,6 +70,15 @@ lent-number c P a b d = go (lengthAllowed c) (wellFormed c)
     go true true = a
     go true false = d
     go false w = b
+
+-- A container that is refused lends no data.
+pub none-lent : (c : List ℕ) → (lentOf c .number ≡ 0 → ⊥) → dataLent c ≡ []
+unfolding lentOf firstRow dataLent
+none-lent c h = go (wellFormed c) refl
+  where
+    go : (t : Bool) → wellFormed c ≡ t → cond t (dataOf c) [] ≡ []
+    go true e = absurd (h (rw (formed-length c e, e)))
+    go false e = refl
 
 -- ---- the answers
 pub lent-length : (c : List ℕ) → Judges c BadLength

@@ -1,9 +1,9 @@
--- The hash chain's node numbers, one after the other, and the depth of the tree over the shares. Assumes nothing.
+-- The hash chain's node numbers, one after the other, and the depth of a tree. Assumes nothing.
 use mathlib.Core.Path.{_≡_, refl, sym, ap}
 use mathlib.Core.Bool.{Bool, true, false, cond, not, _&&_, false≢true}
 use mathlib.Core.List.{List, [], _∷_}
 use Prim.Native.Nat.{ℕ, zero, suc, _+_, _*_, _-_, _≤_, _<_}
-use native.Mathlib.Nat.{not-suc-le-zero}
+use native.Mathlib.Nat.{not-suc-le-zero, zero-add}
 use native.Mathlib.Numerals.{add-one}
 use native.Mathlib.Omega.{arith}
 use lib.Dec.{eqb, leb, ltb}
@@ -96,14 +96,10 @@ unfolding nodesOk
 nodes-true top [] h d = refl
 nodes-true top (x ∷ xs) h d = rw (lt-ltb x top (h .0), again-none x xs (d .0)) (nodes-true top xs (h .1) (d .1))
 
--- ---- the depth of the tree over the shares
+-- ---- the depth of a tree
 pub power-next : (c : ℕ) → power (c + 1) ≡ 2 * power c
 unfolding power
 power-next c = ap power (add-one c)
-
-eight : power 8 ≡ 256
-unfolding power
-eight = refl
 
 one : power 0 ≡ 1
 unfolding power
@@ -137,21 +133,19 @@ unfolding depthFrom
 depth-stop zero c p n h = refl
 depth-stop (suc more) c p n h = rw (le-leb _ _ h)
 
--- A turn of the loop: the fuel is what c lacks of 8.
+-- A turn of the loop: the fuel is what c lacks of n.
 depth-step : (more m c p n : ℕ) → more ≡ suc m → p < n → depthFrom more c p n ≡ depthFrom m (c + 1) (2 * p) n
 unfolding depthFrom
 depth-step more m c p n e h = rw (e, lt-leb _ _ h, add-one)
 
-pub depth-small : (c p n : ℕ) → p ≡ power c → n < 256 → p < n → c < 8
-depth-small c p n e b h = go (leb 8 c) refl
-  where
-    go : (t : Bool) → leb 8 c ≡ t → c < 8
-    go true l = absurd (omega (arith, eight, power-rises 8 c (leb-true _ _ l)))
-    go false l = leb-false 8 c l
+-- A number is below its power, so n steps are enough, and none is left over where p is below n.
+pub power-above : (c : ℕ) → c < power c
+power-above zero = omega (arith, one)
+power-above (suc c) = omega (arith, power-suc c, power-above c)
 
-pub depth-turn : (c p n : ℕ) → p ≡ power c → n < 256 → p < n
-    → depthFrom (8 - c) c p n ≡ depthFrom (8 - (c + 1)) (c + 1) (2 * p) n
-depth-turn c p n e b h = depth-step _ _ c p n (omega (arith, depth-small c p n e b h)) h
+pub depth-turn : (c p n : ℕ) → p ≡ power c → p < n
+    → depthFrom (n - c) c p n ≡ depthFrom (n - (c + 1)) (c + 1) (2 * p) n
+depth-turn c p n e h = depth-step _ _ c p n (omega (arith, power-above c)) h
 
 from-enough : (more c p n : ℕ) → p ≡ power c → n ≤ power (c + more) → n ≤ power (depthFrom more c p n)
 unfolding depthFrom
@@ -178,10 +172,20 @@ from-least (suc more) c p n d e h l =
 
 pub depth-least : DepthIsLeast
 unfolding depth
-depth-least n h =
-    (from-enough 8 0 1 n (sym one) (omega (arith, eight)), λ c k. from-least 8 0 1 n c (sym one) k (omega arith))
+depth-least n =
+    let k : n ≤ power (0 + n) = rw (zero-add n) (omega (arith, power-above n)) in
+    (from-enough n 0 1 n (sym one) k, λ c h. from-least n 0 1 n c (sym one) h (omega arith))
 
-pub depth-bounds : (n : ℕ) → n < 256 → (depth n ≤ 8) × (1 ≤ power (depth n)) × (power (depth n) ≤ 256)
-depth-bounds n h =
-    let d = depth-least n (omega arith) .1 8 (omega (arith, eight)) in
-    (d, omega (arith, one, power-rises 0 (depth n) (omega arith)), omega (arith, eight, power-rises (depth n) 8 d))
+-- The tree over at most 2^c leaves has at most that depth and as many leaves.
+pub depth-within : (n c : ℕ) → n ≤ power c → (depth n ≤ c) × (1 ≤ power (depth n)) × (power (depth n) ≤ power c)
+depth-within n c h =
+    let d = depth-least n .1 c h in
+    (d, omega (arith, one, power-rises 0 (depth n) (omega arith)), power-rises (depth n) c d)
+
+pub eight : power 8 ≡ 256
+unfolding power
+eight = refl
+
+pub sixty-two : power 62 ≡ 4611686018427387904
+unfolding power
+sixty-two = refl

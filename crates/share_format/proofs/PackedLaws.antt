@@ -1,18 +1,22 @@
 -- Parts packed one behind the other have the boundaries that their lengths give, and parts between boundaries in order
 -- are packed so, for any edition of a share. Assumes nothing.
 use mathlib.Core.Path.{_≡_, refl, sym, ap, _∙_}
-use mathlib.Core.Bool.{true, cond}
+use mathlib.Core.Bool.{true, false≢true}
 use mathlib.Core.List.{List, [], _∷_, _++_, map, append-assoc}
 use Prim.Native.Nat.{ℕ, zero, suc, _+_, _-_, _≤_, _<_}
 use native.Mathlib.Nat.{not-suc-le-zero}
 use native.Mathlib.Omega.{arith}
-use lib.Dec.{leb, ltb}
+use lib.Dec.{leb}
 use lib.ListN.{length, take, drop, getD, length-take, length-drop}
 use lib.Seq.{drop-length}
+use borrow.Author.Tests.{leb-true, le-leb}
+use Rattle.octets.specs.Facts.{Each, Fits64}
+use Rattle.octets.specs.Lists.{sum}
 use Rattle.octets.specs.Strings.{join}
 use Rattle.octets.proofs.ListLaws.{both, field-then, field-back}
-use Rattle.share_format.specs.Bounds.{Bound, inOrder, partOf, packed}
-use Rattle.share_format.proofs.BoundLaws.{places, lastOf, first-is, in-order-parts}
+use Rattle.share_format.specs.Bounds.{inOrder, partOf, packed}
+use Rattle.share_format.specs.Facts.{EachLeast}
+use Rattle.share_format.proofs.BoundLaws.{lastOf, in-order-parts}
 
 -- ---- from the parts to their boundaries
 packed-first : (a : ℕ) (ns : List ℕ) → getD (packed a ns) 0 0 ≡ a
@@ -35,39 +39,76 @@ packed-part a s t (p ∷ ps) (suc i) h e =
 
 -- ---- from boundaries in order to the parts
 -- The parts between the boundary `a` and those after it.
-unfoldable pub partsBetween : ℕ → List Bound → List ℕ → List (List ℕ)
+unfoldable pub partsBetween : ℕ → List ℕ → List ℕ → List (List ℕ)
 partsBetween a [] s = []
-partsBetween a (b ∷ bs) s = take (b .at - a) (drop a s) ∷ partsBetween (b .at) bs s
+partsBetween a (b ∷ bs) s = take (b - a) (drop a s) ∷ partsBetween b bs s
 
 -- The next boundary lies inside, and the others are in order behind it.
-next-inside : (a : ℕ) (b : Bound) (bs : List Bound) (s : List ℕ) → inOrder a (b ∷ bs) ≡ true
-    → lastOf a (b ∷ bs) ≡ length s → (a ≤ b .at) × (b .at ≤ length s) × (inOrder (b .at) bs ≡ true)
-unfolding inOrder lastOf places
-next-inside a b bs s e l =
-    let p = in-order-parts a (b ∷ bs) s e l 0 (omega arith) in
-    let f = first-is (b .at) bs in (
-      omega (arith, f, p .0),
-      omega (arith, f, p .1),
-      both (cond (b .strict) (ltb a (b .at)) (leb a (b .at))) (inOrder (b .at) bs) e .1,
-    )
+next-inside : (m : ℕ) (ms : List ℕ) (a b : ℕ) (bs s : List ℕ) → inOrder (m ∷ ms) a (b ∷ bs) ≡ true
+    → lastOf a (b ∷ bs) ≡ length s → (a ≤ b) × (b ≤ length s) × (inOrder ms b bs ≡ true)
+unfolding inOrder
+next-inside m ms a b bs s e l =
+    let p = in-order-parts (m ∷ ms) a (b ∷ bs) s e l 0 (omega arith) in
+    (omega (arith, p .0), p .1, both (leb (a + m) b) (inOrder ms b bs) e .1)
 
 -- Their lengths have the boundaries again.
-pub between-packed : (a : ℕ) (bs : List Bound) (s : List ℕ) → inOrder a bs ≡ true → lastOf a bs ≡ length s
-    → packed a (map length (partsBetween a bs s)) ≡ places a bs
-unfolding lastOf partsBetween places packed
-between-packed a [] s e l = refl
-between-packed a (b ∷ bs) s e l =
-    let h = next-inside a b bs s e l in
-    let k : a + length (take (b .at - a) (drop a s)) ≡ b .at =
-    simp (length-take, length-drop) (omega (arith, h .0, h .1)) in
-    rw k (ap (λ (ns : List ℕ). a ∷ ns) (between-packed (b .at) bs s (h .2) l))
+pub between-packed : (ms : List ℕ) (a : ℕ) (bs s : List ℕ) → inOrder ms a bs ≡ true → lastOf a bs ≡ length s
+    → packed a (map length (partsBetween a bs s)) ≡ a ∷ bs
+unfolding inOrder lastOf partsBetween packed
+between-packed [] a [] s e l = refl
+between-packed [] a (b ∷ bs) s e l = absurd (false≢true e)
+between-packed (m ∷ ms) a [] s e l = absurd (false≢true e)
+between-packed (m ∷ ms) a (b ∷ bs) s e l =
+    let h = next-inside m ms a b bs s e l in
+    let k : a + length (take (b - a) (drop a s)) ≡ b = simp (length-take, length-drop) (omega (arith, h .0, h .1)) in
+    rw k (ap (λ (ns : List ℕ). a ∷ ns) (between-packed ms b bs s (h .2) l))
 
 -- Joined, they are all from `a` on.
-pub between-join : (a : ℕ) (bs : List Bound) (s : List ℕ) → inOrder a bs ≡ true → lastOf a bs ≡ length s
+pub between-join : (ms : List ℕ) (a : ℕ) (bs s : List ℕ) → inOrder ms a bs ≡ true → lastOf a bs ≡ length s
     → join (partsBetween a bs s) ≡ drop a s
-unfolding lastOf partsBetween join
-between-join a [] s e l = rw (l, drop-length)
-between-join a (b ∷ bs) s e l =
-    let h = next-inside a b bs s e l in
-    let k : a + (b .at - a) ≡ b .at = omega (arith, h .0) in
-    sym (field-then s a (b .at - a) (b .at) _ _ k refl (sym (between-join (b .at) bs s (h .2) l)))
+unfolding inOrder lastOf partsBetween join
+between-join [] a [] s e l = rw (l, drop-length)
+between-join [] a (b ∷ bs) s e l = absurd (false≢true e)
+between-join (m ∷ ms) a [] s e l = absurd (false≢true e)
+between-join (m ∷ ms) a (b ∷ bs) s e l =
+    let h = next-inside m ms a b bs s e l in
+    let k : a + (b - a) ≡ b = omega (arith, h .0) in
+    sym (field-then s a (b - a) b _ _ k refl (sym (between-join ms b bs s (h .2) l)))
+
+-- ---- what parts packed so are
+pub packed-head : (a : ℕ) (ns : List ℕ) → packed a ns ≡ a ∷ drop 1 (packed a ns)
+unfolding packed
+packed-head a [] = refl
+packed-head a (n ∷ ns) = refl
+
+-- They are in order exactly when each has its least size.
+pub packed-facts : (ms ns : List ℕ) (a : ℕ) → inOrder ms a (drop 1 (packed a ns)) ≡ true → EachLeast ms ns
+unfolding packed inOrder
+packed-facts [] [] a e = tt
+packed-facts [] (n ∷ ns) a e = absurd (false≢true (rw (packed-head (a + n) ns) at e))
+packed-facts (m ∷ ms) [] a e = absurd (false≢true e)
+packed-facts (m ∷ ms) (n ∷ ns) a e =
+    let p =
+    both (leb (a + m) (a + n)) (inOrder ms (a + n) (drop 1 (packed (a + n) ns))) (rw (packed-head (a + n) ns) at e) in
+    let l = leb-true (a + m) (a + n) (p .0) in
+    (omega arith, packed-facts ms ns (a + n) (p .1))
+
+pub packed-order : (ms ns : List ℕ) (a : ℕ) → EachLeast ms ns → inOrder ms a (drop 1 (packed a ns)) ≡ true
+unfolding packed inOrder
+packed-order [] [] a f = refl
+packed-order [] (n ∷ ns) a f = absurd f
+packed-order (m ∷ ms) [] a f = absurd f
+packed-order (m ∷ ms) (n ∷ ns) a f =
+    let l : leb (a + m) (a + n) ≡ true = le-leb (a + m) (a + n) (omega (arith, f .0)) in
+    rw (packed-head (a + n) ns, l) (packed-order ms ns (a + n) (f .1))
+
+-- The last is the end of all, and none is beyond it.
+pub packed-last : (a : ℕ) (ns : List ℕ) → getD (packed a ns) (length ns) 0 ≡ a + sum ns
+unfolding packed sum
+packed-last a [] = omega arith
+packed-last a (n ∷ ns) = omega (arith, packed-last (a + n) ns)
+
+pub packed-fits : (a : ℕ) (ns : List ℕ) → Fits64 (a + sum ns) → Each Fits64 (packed a ns)
+unfolding packed sum
+packed-fits a [] h = (omega arith, tt)
+packed-fits a (n ∷ ns) h = (omega arith, packed-fits (a + n) ns (omega arith))

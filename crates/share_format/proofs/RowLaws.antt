@@ -1,27 +1,32 @@
--- The rows of the table: the least multiple, the order of the offsets, and the number in two steps. Assumes nothing.
-use mathlib.Core.Path.{_≡_, refl, sym, _∙_}
-use mathlib.Core.Bool.{Bool, true, false, cond}
-use mathlib.Core.List.{List}
-use Prim.Native.Nat.{ℕ, _+_, _*_, _-_, _/_, _%_, _≤_, _<_}
+-- The rows of the table: the least multiple, rounding up, the order of the offsets, and the number in two steps. Assumes
+-- nothing.
+use mathlib.Core.Path.{_≡_, refl, sym, ap, _∙_}
+use mathlib.Core.Bool.{Bool, true, false, cond, not, _&&_, false≢true}
+use mathlib.Core.List.{List, [], _∷_}
+use Prim.Native.Nat.{ℕ, suc, _+_, _*_, _-_, _/_, _%_, _≤_, _<_}
 use native.Mathlib.Nat.{mod-lt, mod-le, div-add-mod', add-mod-right, mul-mod-left, mul-le-mul-right, suc-mul}
+use native.Mathlib.Nat.{div-eq-of-lt-le, div-lt-iff-lt-mul}
 use native.Mathlib.Numerals.{add-one}
 use native.Mathlib.Omega.{arith}
-use lib.Dec.{eqb, leb}
-use lib.ListN.{length, getD}
+use lib.Dec.{eqb, leb, ltb}
+use lib.ListN.{length, drop, getD}
 use borrow.Author.Tests.{eqb-true, eqb-false, ltb-true, ltb-false, leb-true, leb-false}
-use borrow.Author.Tests.{eq-eqb, ne-eqb, lt-ltb, le-leb, not-false}
+use borrow.Author.Tests.{eq-eqb, ne-eqb, lt-ltb, le-leb, not-true, not-false}
 use Rattle.octets.specs.Facts.{Each}
-use Rattle.octets.proofs.ListLaws.{both, by-refuting}
+use Rattle.octets.proofs.ListLaws.{both}
 use Rattle.octets.specs.Rows.{firstRow}
 use Rattle.share_format.specs.Bounds.{inOrder}
-use Rattle.share_format.specs.Header.{required, total, keyAt, signatureAt, chainAt, treeAt, shareDataAt}
-use Rattle.share_format.specs.Header.{privateKeyAt, endAt, boundsOf}
+use Rattle.share_format.specs.Header.{Edition, editionOf, headerSize, required, total, segmentSize, dataLength}
+use Rattle.share_format.specs.Header.{boundsOf}
 use Rattle.share_format.specs.Parts.{leastMultiple}
-use Rattle.share_format.specs.Rows.{codingOk, offsets, ordered, headRows, bodyRows, shareOutcome}
-use Rattle.share_format.specs.Facts.{OrderedOffsets, PartInside}
-use Rattle.share_format.specs.Claims.{Least, MultipleIsLeast}
-use Rattle.share_format.proofs.BoundLaws.{places, lastOf, in-order-parts}
-use Rattle.octets.proofs.RowLaws.{rows-append, clear}
+use Rattle.share_format.specs.Rows.{codingOk, segmentOk, leastSizes, placedOk, ordered, roundedUp, headRows}
+use Rattle.share_format.specs.Nodes.{depth, power}
+use Rattle.share_format.specs.Rows.{treeSize, blocksSize, bodyRows, shareOutcome}
+use Rattle.share_format.specs.Facts.{PartsInside}
+use Rattle.share_format.specs.Claims.{Least, MultipleIsLeast, RoundedIsLeast}
+use Rattle.share_format.proofs.BoundLaws.{lastOf, order-length, in-order-parts}
+use Rattle.share_format.proofs.NodeLaws.{depth-least}
+use Rattle.octets.proofs.RowLaws.{rows-first, rows-second, rows-clear, clear}
 
 -- ---- row 24
 pub least-whole : (k n : ℕ) → n % k ≡ 0 → leastMultiple k n ≡ n
@@ -74,72 +79,109 @@ least-multiple k n p = go (eqb (n % k) 0) refl
     go true e = whole-least k n (eqb-true _ _ e)
     go false e = more-least k n p (eqb-false _ _ e)
 
+-- ---- rows 27 and 28: rounding up
+pub rounded-whole : (n k : ℕ) → 0 < k → n % k ≡ 0 → roundedUp n k ≡ n / k
+unfolding roundedUp
+rounded-whole n k p h =
+    div-eq-of-lt-le k (omega (arith, div-add-mod' n k))
+    (omega (arith, div-add-mod' n k, suc-mul (n / k) k, add-one (n / k)))
+
+pub rounded-more : (n k : ℕ) → 0 < k → (n % k ≡ 0 → ⊥) → roundedUp n k ≡ n / k + 1
+unfolding roundedUp
+rounded-more n k p h =
+    div-eq-of-lt-le k (omega (arith, div-add-mod' n k, suc-mul (n / k) k, add-one (n / k)))
+    (omega (
+      arith,
+      div-add-mod' n k,
+      mod-lt n p,
+      suc-mul (n / k) k,
+      suc-mul (suc (n / k)) k,
+      add-one (n / k),
+      add-one (suc (n / k)),
+    ))
+
+-- The claim about rounding up.
+pub rounded-least : RoundedIsLeast
+unfolding roundedUp
+rounded-least n k p =
+    let d = div-add-mod' (n + (k - 1)) k in
+    let m = mod-lt (n + (k - 1)) p in (
+      omega (arith, d, m),
+      λ q h. omega (arith, div-lt-iff-lt-mul {x = n + (k - 1)} {y = suc q} p .1 (omega (arith, suc-mul q k))),
+    )
+
 -- ---- row 25
-pub order-facts : (s : List ℕ) → ordered s ≡ true → OrderedOffsets s
-unfolding ordered inOrder
-order-facts s e =
-    let p = both _ _ e in
-    let a = both _ _ (p .0) in
-    let b = both _ _ (a .1) in
-    let c = both _ _ (b .1) in
-    let d = both _ _ (c .1) in
-    let f = both _ _ (d .1) in
-    let g = both _ _ (f .1) in
-    record {
-      signature = ltb-true _ _ (a .0);
-      chain = ltb-true _ _ (b .0);
-      tree = leb-true _ _ (c .0);
-      shareData = leb-true _ _ (d .0);
-      privateKey = leb-true _ _ (f .0);
-      rest = ltb-true _ _ (g .0);
-      whole = eqb-true _ _ (p .1);
-    }
+-- Boundaries in their places: the first is the header's end, and the others are in order behind it.
+split : (e : Edition) (bs : List ℕ) → placedOk e bs ≡ true
+    → (bs ≡ headerSize e ∷ drop 1 bs) × (inOrder (leastSizes e) (headerSize e) (drop 1 bs) ≡ true)
+unfolding placedOk
+split e [] h = absurd (false≢true h)
+split e (a ∷ bs) h =
+    let p = both (eqb a (headerSize e)) (inOrder (leastSizes e) a bs) h in
+    let f : a ≡ headerSize e = eqb-true a (headerSize e) (p .0) in
+    (rw f, rw (← f) (p .1))
 
-pub order-false : (s : List ℕ) → (OrderedOffsets s → ⊥) → ordered s ≡ false
-order-false s k = by-refuting (ordered s) (λ e. k (order-facts s e))
+seven : (e : Edition) → length (leastSizes e) ≡ 7
+seven false = refl
+seven true = refl
 
-pub order-last : (s : List ℕ)
-    → keyAt < signatureAt s
-    → signatureAt s < chainAt s
-    → chainAt s ≤ treeAt s
-    → treeAt s ≤ shareDataAt s
-    → shareDataAt s ≤ privateKeyAt s
-    → privateKeyAt s < endAt s
-    → ordered s ≡ eqb (endAt s) (length s)
-unfolding ordered inOrder
-order-last s a b c d e f = rw (lt-ltb _ _ a, lt-ltb _ _ b, le-leb _ _ c, le-leb _ _ d, le-leb _ _ e, lt-ltb _ _ f)
+pub placed-first : (e : Edition) (bs : List ℕ) → placedOk e bs ≡ true → getD bs 0 0 ≡ headerSize e
+placed-first e bs h = ap (λ (l : List ℕ). getD l 0 0) (split e bs h .0)
 
--- The boundaries of the parts.
-pub first-bound : (s : List ℕ) → getD (boundsOf s) 0 0 ≡ keyAt
-unfolding boundsOf
-first-bound s = refl
+-- The parts of a slice that ends with the last of the boundaries: each lies inside, and has its least size.
+module _ (e : Edition) (bs s : List ℕ) (h : placedOk e bs ≡ true) (l : getD bs 7 0 ≡ length s) where
+  pub placed-tail : bs ≡ headerSize e ∷ drop 1 bs
+  placed-tail = split e bs h .0
 
-pub last-bound : (s : List ℕ) → ordered s ≡ true → getD (boundsOf s) 6 0 ≡ length s
-unfolding boundsOf
-last-bound s e = order-facts s e .whole
+  pub placed-order : inOrder (leastSizes e) (headerSize e) (drop 1 bs) ≡ true
+  placed-order = split e bs h .1
 
-pub bounds-inside : (s : List ℕ) (i : ℕ) → ordered s ≡ true → i < 6 → PartInside (boundsOf s) (length s) i
-unfolding ordered boundsOf places lastOf
-bounds-inside s i e h =
-    let o = both _ _ e in
-    let p = in-order-parts keyAt (offsets s) s (o .0) (eqb-true _ _ (o .1)) i h in
-    record { rises = rw add-one (p .0); fits = rw add-one (p .1) }
+  pub placed-last : lastOf (headerSize e) (drop 1 bs) ≡ length s
+  placed-last =
+      order-length (leastSizes e) (headerSize e) (drop 1 bs) placed-order .1
+      ∙ rw (seven e) (ap (λ (l : List ℕ). getD l 7 0) (sym placed-tail) ∙ l)
+
+  placed-part : (i : ℕ) → i < 7
+      → (getD bs i 0 + getD (leastSizes e) i 0 ≤ getD bs (suc i) 0) × (getD bs (suc i) 0 ≤ length s)
+  placed-part i k =
+      let n = order-length (leastSizes e) (headerSize e) (drop 1 bs) placed-order .0 in
+      let q =
+      in-order-parts (leastSizes e) (headerSize e) (drop 1 bs) s placed-order placed-last i
+      (omega (arith, n, seven e)) in
+      let at : (j : ℕ) → getD bs j 0 ≡ getD (headerSize e ∷ drop 1 bs) j 0 =
+      λ j. ap (λ (l : List ℕ). getD l j 0) placed-tail in
+      (omega (arith, q .0, at i, at (suc i)), omega (arith, q .1, at (suc i)))
+
+  pub placed-inside : PartsInside bs (length s)
+  placed-inside i k =
+      let p = placed-part i k in
+      record { rises = rw add-one (omega (arith, p .0)); fits = rw add-one (p .1) }
+
+  pub placed-least : (i : ℕ) → i < 7 → getD bs i 0 + getD (leastSizes e) i 0 ≤ getD bs (suc i) 0
+  placed-least i k = placed-part i k .0
+
+pub order-facts : (e : Edition) (s : List ℕ) → ordered e s ≡ true
+    → (placedOk e (boundsOf e s) ≡ true) × (getD (boundsOf e s) 7 0 ≡ length s)
+unfolding ordered
+order-facts e s h = let p = both _ _ h in (p .0, eqb-true _ _ (p .1))
+
+pub bounds-inside : (e : Edition) (s : List ℕ) → ordered e s ≡ true → PartsInside (boundsOf e s) (length s)
+bounds-inside e s h = let o = order-facts e s h in placed-inside e (boundsOf e s) s (o .0) (o .1)
 
 -- ---- the numbers
-head-numbered : (s : List ℕ) → Each (λ r. 0 < r .number) (headRows s)
+head-numbered : (e : Edition) (s : List ℕ) → Each (λ r. 0 < r .number) (headRows e s)
 unfolding headRows
-head-numbered s = (omega arith, (omega arith, (omega arith, (omega arith, tt))))
+head-numbered e s = (omega arith, (omega arith, (omega arith, (omega arith, tt))))
 
-in-steps : (s : List ℕ)
-    → shareOutcome s ≡ cond (eqb (firstRow (headRows s)) 0) (firstRow (bodyRows s)) (firstRow (headRows s))
+pub outcome-head : (s : List ℕ) → (firstRow (headRows (editionOf s) s) ≡ 0 → ⊥)
+    → shareOutcome s ≡ firstRow (headRows (editionOf s) s)
 unfolding shareOutcome
-in-steps s = rows-append (headRows s) (bodyRows s) (head-numbered s)
+outcome-head s h = rows-first (headRows (editionOf s) s) _ (head-numbered (editionOf s) s) h
 
-pub outcome-head : (s : List ℕ) → (firstRow (headRows s) ≡ 0 → ⊥) → shareOutcome s ≡ firstRow (headRows s)
-outcome-head s h = in-steps s ∙ rw (ne-eqb _ _ h)
-
-pub outcome-body : (s : List ℕ) → firstRow (headRows s) ≡ 0 → shareOutcome s ≡ firstRow (bodyRows s)
-outcome-body s h = in-steps s ∙ rw (eq-eqb _ _ h)
+pub outcome-body : (s : List ℕ) → firstRow (headRows (editionOf s) s) ≡ 0
+    → shareOutcome s ≡ firstRow (bodyRows (editionOf s) s)
+unfolding shareOutcome
+outcome-body s h = rows-second (headRows (editionOf s) s) _ (head-numbered (editionOf s) s) h
 
 pub coding-facts : (k n : ℕ) → codingOk k n ≡ true → (0 < k) × (k ≤ n)
 unfolding codingOk
@@ -149,25 +191,105 @@ pub coding-true : (k n : ℕ) → 0 < k → k ≤ n → codingOk k n ≡ true
 unfolding codingOk
 coding-true k n h l = rw (lt-ltb 0 k h, le-leb k n l)
 
-pub head-facts : (s : List ℕ) → firstRow (headRows s) ≡ 0 → (keyAt ≤ length s) × (0 < required s)
+pub head-facts : (e : Edition) (s : List ℕ) → firstRow (headRows e s) ≡ 0
+    → (headerSize e ≤ length s) × (0 < required e s)
+    × (segmentOk e (segmentSize e s) (required e s) (dataLength e s) ≡ true)
 unfolding headRows
-head-facts s e =
-    let a = clear 21 _ _ (omega arith) e in
+head-facts e s h =
+    let a = clear 21 _ _ (omega arith) h in
     let b = clear 22 _ _ (omega arith) (a .1) in
     let c = clear 23 _ _ (omega arith) (b .1) in
-    (ltb-false _ _ (a .0), coding-facts (required s) (total s) (not-false _ (c .0)) .0)
-
-body-ordered : (s : List ℕ) → firstRow (bodyRows s) ≡ 0 → ordered s ≡ true
-unfolding bodyRows
-body-ordered s e = not-false _ (clear 25 _ _ (omega arith) e .0)
-
-head-zero : (s : List ℕ) → shareOutcome s ≡ 0 → firstRow (headRows s) ≡ 0
-head-zero s e = go (eqb (firstRow (headRows s)) 0) refl
-  where
-    go : (t : Bool) → eqb (firstRow (headRows s)) 0 ≡ t → firstRow (headRows s) ≡ 0
-    go true h = eqb-true _ _ h
-    go false h = sym (outcome-head s (eqb-false _ _ h)) ∙ e
+    let d = clear 24 _ _ (omega arith) (c .1) in (
+      ltb-false _ _ (a .0),
+      coding-facts (required e s) (total e s) (not-false _ (c .0)) .0,
+      not-false _ (d .0),
+    )
 
 -- A share without an outcome has its offsets in order.
-pub outcome-ordered : (s : List ℕ) → shareOutcome s ≡ 0 → ordered s ≡ true
-outcome-ordered s e = body-ordered s (sym (outcome-body s (head-zero s e)) ∙ e)
+pub outcome-ordered : (s : List ℕ) → shareOutcome s ≡ 0
+    → (firstRow (headRows (editionOf s) s) ≡ 0) × (ordered (editionOf s) s ≡ true)
+unfolding shareOutcome bodyRows
+outcome-ordered s z =
+    let r = rows-clear (headRows (editionOf s) s) _ (head-numbered (editionOf s) s) z in
+    (r .0, not-false _ (clear 25 _ _ (omega arith) (r .1) .0))
+
+-- ---- row 24
+pub segment-none : (n : ℕ) → eqb n 0 ≡ not (ltb 0 n)
+segment-none n = go (ltb 0 n) refl
+  where
+    go : (t : Bool) → ltb 0 n ≡ t → eqb n 0 ≡ not t
+    go true e = ne-eqb n 0 (λ z. omega (arith, ltb-true 0 n e))
+    go false e = eq-eqb n 0 (omega (arith, ltb-false 0 n e))
+
+-- Without a segment size there is no data.
+pub segment-some : (e : Edition) (segment k n : ℕ) → segmentOk e segment k n ≡ true → e ≡ true → segment ≡ 0 → n ≡ 0
+unfolding segmentOk
+segment-some false segment k n h r z = absurd (false≢true r)
+segment-some true segment k n h r z =
+    let p = both (eqb (segment % k) 0) (not (eqb segment 0 && ltb 0 n)) h .1 in
+    let q : (eqb segment 0 && ltb 0 n) ≡ false = not-true _ p in
+    let f : ltb 0 n ≡ false = rw (eq-eqb segment 0 z) at q in
+    omega (arith, ltb-false 0 n f)
+
+pub some-segment : (segment n : ℕ) → (segment ≡ 0 → n ≡ 0) → (n ≡ 0 → ⊥) → 0 < segment
+some-segment segment n h k = go (leb 1 segment) refl
+  where
+    go : (t : Bool) → leb 1 segment ≡ t → 0 < segment
+    go true e = leb-true 1 segment e
+    go false e = absurd (k (h (omega (arith, leb-false 1 segment e))))
+
+-- ---- row 25, of boundaries as they come
+pub placed-false : (e : Edition) (bs : List ℕ) → (getD bs 0 0 ≡ headerSize e → ⊥) → placedOk e bs ≡ false
+unfolding placedOk
+placed-false e [] h = refl
+placed-false e (a ∷ bs) h = rw (ne-eqb a (headerSize e) h)
+
+pub placed-rest : (e : Edition) (bs : List ℕ) → getD bs 0 0 ≡ headerSize e
+    → inOrder (leastSizes e) (getD bs 0 0) (drop 1 bs) ≡ placedOk e bs
+unfolding placedOk inOrder
+placed-rest false [] h = refl
+placed-rest true [] h = refl
+placed-rest e (a ∷ bs) h = rw (eq-eqb a (headerSize e) h)
+
+-- ---- rows 27 and 28 of MDMF, in numbers of 64 bits
+same-test : (a b c d : ℕ) → (a ≡ b → c ≡ d) → (c ≡ d → a ≡ b) → eqb a b ≡ eqb c d
+same-test a b c d f g = go (eqb c d) refl
+  where
+    go : (t : Bool) → eqb c d ≡ t → eqb a b ≡ t
+    go true e = eq-eqb a b (g (eqb-true c d e))
+    go false e = ne-eqb a b (λ h. eqb-false c d e (f h))
+
+module _ (n t : ℕ) where
+  pub tree-none : n ≡ 0 → eqb t 0 ≡ eqb t (treeSize n)
+  unfolding treeSize
+  tree-none z = rw (eq-eqb n 0 z)
+
+  module _ (h : n ≡ 0 → ⊥) where
+    -- 2^d is at least n, which is at least 1.
+    enough : (n ≤ power (depth n)) × (0 < n)
+    enough = (depth-least n .0, some-segment n n (λ z. z) h)
+
+    pub tree-ragged : (t % 32 ≡ 0 → ⊥) → eqb t (treeSize n) ≡ false
+    unfolding treeSize
+    tree-ragged k = rw (ne-eqb n 0 h) (ne-eqb t _ (λ e. k (omega (arith, e))))
+
+    pub tree-few : t / 32 < n → eqb t (treeSize n) ≡ false
+    unfolding treeSize
+    tree-few k = let f = enough in rw (ne-eqb n 0 h) (ne-eqb t _ (λ e. omega (arith, e)))
+
+    pub tree-hashes : t % 32 ≡ 0 → eqb (t / 32) (2 * power (depth n) - 1) ≡ eqb t (treeSize n)
+    unfolding treeSize
+    tree-hashes k =
+        rw (ne-eqb n 0 h)
+        (same-test (t / 32) (2 * power (depth n) - 1) t (32 * (2 * power (depth n) - 1)) (λ e. omega (arith, e))
+        (λ e. omega (arith, e)))
+
+module _ (n k m t : ℕ) where
+  pub salts-few : t / 16 < n → eqb t (blocksSize n k m) ≡ false
+  unfolding blocksSize
+  salts-few h = ne-eqb t _ (λ e. omega (arith, e))
+
+  pub salts-off : n ≤ t / 16 → eqb (t - 16 * n) (roundedUp m k) ≡ eqb t (blocksSize n k m)
+  unfolding blocksSize
+  salts-off h =
+      same-test (t - 16 * n) (roundedUp m k) t (16 * n + roundedUp m k) (λ e. omega (arith, e)) (λ e. omega (arith, e))

@@ -1,25 +1,16 @@
 -- Parts in order inside a slice, given by their boundaries, for any edition of a share.
 use Prim.Native.Nat.{ℕ, suc, _+_, _-_}
-use mathlib.Core.Bool.{Bool, true, false, cond, _&&_}
+use mathlib.Core.Bool.{Bool, true, false, _&&_}
 use mathlib.Core.List.{List, [], _∷_}
 use lib.ListN.{take, drop, getD}
-use lib.Dec.{leb, ltb}
+use lib.Dec.{leb}
 
--- A boundary, and whether it stands strictly above the one before.
-pub record Bound : Type 0 where
-  pub at : ℕ
-  pub strict : Bool
-
-abbrev pub above : ℕ → Bound
-above n = record { at = n; strict = true }
-
-abbrev pub from : ℕ → Bound
-from n = record { at = n; strict = false }
-
--- The boundaries after `a` stand in order (docs/RULES.md, S25).
-unfoldable pub inOrder : ℕ → List Bound → Bool
-inOrder a [] = true
-inOrder a (b ∷ bs) = cond (b .strict) (ltb a (b .at)) (leb a (b .at)) && inOrder (b .at) bs
+-- Behind the boundary `a` stand as many as there are parts, each part with at least so many bytes (docs/RULES.md, S25).
+unfoldable pub inOrder : List ℕ → ℕ → List ℕ → Bool
+inOrder [] a [] = true
+inOrder [] a (b ∷ bs) = false
+inOrder (m ∷ ms) a [] = false
+inOrder (m ∷ ms) a (b ∷ bs) = leb (a + m) b && inOrder ms b bs
 
 -- Part i of a slice: from boundary i to boundary i + 1 (S34).
 unfoldable pub partOf : ℕ → List ℕ → List ℕ → List ℕ

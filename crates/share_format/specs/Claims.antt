@@ -1,9 +1,12 @@
--- What two of the definitions mean (docs/RULES.md, S31, S32), proved in proofs/; shares made of bytes.
+-- What some of the definitions mean (docs/RULES.md, S31, S32, S55), proved in proofs/; shares made of bytes.
 use mathlib.Core.Path.{_≡_}
-use Prim.Native.Nat.{ℕ, _%_, _≤_, _<_}
-use Rattle.octets.specs.Facts.{Octets, Fits64}
+use mathlib.Core.List.{List}
+use Prim.Native.Nat.{ℕ, _*_, _%_, _≤_, _<_}
+use Rattle.octets.specs.Facts.{Each, Octets, Fits64}
 use Rattle.share_format.specs.Nodes.{depth, power}
-use Rattle.share_format.specs.Parts.{Share, leastMultiple}
+use Rattle.share_format.specs.Parts.{Share, sdmf, mdmf, leastMultiple, sequenceIn, rootIn, ivIn, requiredIn}
+use Rattle.share_format.specs.Parts.{totalIn, lengthIn, partList}
+use Rattle.share_format.specs.Rows.{roundedUp}
 
 -- m is the least multiple of k at or above n (S31).
 pub record Least (k n m : ℕ) : Type 0 where
@@ -14,21 +17,31 @@ pub record Least (k n m : ℕ) : Type 0 where
 abbrev pub MultipleIsLeast : Type 0
 MultipleIsLeast = (k n : ℕ) → 0 < k → Least k n (leastMultiple k n)
 
--- The depth of the tree over n shares is the least c with n at most 2^c; n is a byte (S32).
+-- The depth of the tree over n leaves is the least c with n at most 2^c (S32, S56).
 abbrev pub DepthIsLeast : Type 0
-DepthIsLeast = (n : ℕ) → n ≤ 255 → (n ≤ power (depth n)) × ((c : ℕ) → n ≤ power c → depth n ≤ c)
+DepthIsLeast = (n : ℕ) → (n ≤ power (depth n)) × ((c : ℕ) → n ≤ power c → depth n ≤ c)
 
--- The numbers fit their fields, and the rest is made of bytes (S2 to S8, S40).
+-- n / k rounded up is the least number of which k times reaches n (S55).
+abbrev pub RoundedIsLeast : Type 0
+RoundedIsLeast = (n k : ℕ) → 0 < k → (n ≤ roundedUp n k * k) × ((q : ℕ) → n ≤ q * k → roundedUp n k ≤ q)
+
+-- What the types of a writer's arguments say of numbers, where no row says it (S40, S53).
+abbrev pub ArgumentsFit : Share → Type 0
+ArgumentsFit (sdmf x) = Fits64 (x .sequence)
+ArgumentsFit (mdmf x) = Fits64 (x .sequence) × Fits64 (x .dataLength)
+
+-- The segment size that MDMF is given fits its field (S53).
+abbrev pub GivenFits : Share → Type 0
+GivenFits (sdmf x) = Unit {0}
+GivenFits (mdmf x) = Fits64 (x .segmentSize)
+
+-- The numbers fit their fields, and the rest is made of bytes (S2 to S8, S40, S46 to S49, S53).
 pub record OctetShare (x : Share) : Type 0 where
-  pub sequence : Fits64 (x .sequence)
-  pub root : Octets (x .root)
-  pub iv : Octets (x .iv)
-  pub required : x .required < 256
-  pub total : x .total < 256
-  pub dataLength : Fits64 (x .dataLength)
-  pub key : Octets (x .key)
-  pub signature : Octets (x .signature)
-  pub chain : Octets (x .chain)
-  pub tree : Octets (x .tree)
-  pub shareData : Octets (x .shareData)
-  pub privateKey : Octets (x .privateKey)
+  pub sequence : Fits64 (sequenceIn x)
+  pub root : Octets (rootIn x)
+  pub iv : Octets (ivIn x)
+  pub required : requiredIn x < 256
+  pub total : totalIn x < 256
+  pub segment : GivenFits x
+  pub dataLength : Fits64 (lengthIn x)
+  pub parts : Each Octets (partList x)

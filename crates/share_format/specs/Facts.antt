@@ -1,34 +1,34 @@
 -- Facts that hold between a share's parts, which functions hand to each other.
-use mathlib.Core.Path.{_≡_}
-use Prim.Native.Nat.{ℕ, _+_, _≤_, _<_}
-use mathlib.Core.List.{List}
-use lib.ListN.{length, getD}
-use Rattle.octets.specs.Facts.{Fits64, Fits32}
-use Rattle.share_format.specs.Header.{keyAt, signatureAt, chainAt, treeAt, shareDataAt, privateKeyAt, endAt}
-
--- Row 25 does not apply: the offsets are in order, and the last is the length.
-pub record OrderedOffsets (s : List ℕ) : Type 0 where
-  pub signature : keyAt < signatureAt s
-  pub chain : signatureAt s < chainAt s
-  pub tree : chainAt s ≤ treeAt s
-  pub shareData : treeAt s ≤ shareDataAt s
-  pub privateKey : shareDataAt s ≤ privateKeyAt s
-  pub rest : privateKeyAt s < endAt s
-  pub whole : endAt s ≡ length s
+use Prim.Native.Nat.{ℕ, _+_, _^_, _≤_, _<_}
+use mathlib.Core.List.{List, [], _∷_}
+use lib.ListN.{getD}
+use Rattle.octets.specs.Facts.{Fits32}
 
 -- Part i of these boundaries lies inside n bytes.
 pub record PartInside (bs : List ℕ) (n i : ℕ) : Type 0 where
   pub rises : getD bs i 0 ≤ getD bs (i + 1) 0
   pub fits : getD bs (i + 1) 0 ≤ n
 
--- The first four offsets of these boundaries fit their fields.
+-- Each of the seven parts does.
+abbrev pub PartsInside : List ℕ → ℕ → Type 0
+PartsInside bs n = (i : ℕ) → i < 7 → PartInside bs n i
+
+-- Each number is at least its least, and there are as many.
+abbrev pub EachLeast : List ℕ → List ℕ → Type 0
+EachLeast [] [] = Unit {0}
+EachLeast [] (n ∷ ns) = ⊥
+EachLeast (m ∷ ms) [] = ⊥
+EachLeast (m ∷ ms) (n ∷ ns) = (m ≤ n) × EachLeast ms ns
+
+-- Each number fits its field of so many bytes.
+abbrev pub FitEach : List ℕ → List ℕ → Type 0
+FitEach (n ∷ ns) (v ∷ vs) = (v < 256 ^ n) × FitEach ns vs
+FitEach (n ∷ ns) [] = Unit {0}
+FitEach [] vs = Unit {0}
+
+-- SDMF's first four offsets fit their fields.
 pub record NarrowOffsets (bounds : List ℕ) : Type 0 where
   pub signature : Fits32 (getD bounds 1 0)
   pub chain : Fits32 (getD bounds 2 0)
   pub tree : Fits32 (getD bounds 3 0)
   pub shareData : Fits32 (getD bounds 4 0)
-
--- The last two do.
-pub record FarOffsets (bounds : List ℕ) : Type 0 where
-  pub privateKey : Fits64 (getD bounds 5 0)
-  pub rest : Fits64 (getD bounds 6 0)

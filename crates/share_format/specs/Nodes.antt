@@ -1,4 +1,4 @@
--- The hash chain's node numbers, and the tree over the shares (docs/RULES.md, S26, S32, S33).
+-- The hash chain's node numbers, and the depth of a tree (docs/RULES.md, S26, S32, S33, S56).
 use Prim.Native.Nat.{ℕ, zero, suc, _+_, _*_}
 use mathlib.Core.Bool.{Bool, true, cond, not, _&&_}
 use mathlib.Core.List.{List, [], _∷_}
@@ -7,13 +7,13 @@ use Rattle.octets.specs.Numbers.{numberAt}
 use Rattle.share_format.specs.Header.{hashSize}
 use Rattle.octets.specs.Lists.{anyOf}
 
--- The depth c is the least with 2^c >= N; N is a byte, so c is at most 8 (S32).
+-- The depth of a tree over n leaves is the least c with 2^c >= n; n steps are enough to find it (S32, S56).
 unfoldable pub depthFrom : ℕ → ℕ → ℕ → ℕ → ℕ
 depthFrom zero c power n = c
 depthFrom (suc more) c power n = cond (leb n power) c (depthFrom more (suc c) (2 * power) n)
 
 unfoldable pub depth : ℕ → ℕ
-depth n = depthFrom 8 0 1 n
+depth n = depthFrom n 0 1 n
 
 -- 2^c.
 unfoldable pub power : ℕ → ℕ

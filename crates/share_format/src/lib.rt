@@ -1,4 +1,5 @@
-// The layout of an SDMF share: its header, its hash chain, and the rows that judge it.
+// The layout of a share, SDMF or MDMF: its header, its parts, its hash chain, and the rows that judge it.
+pub mod bounds;
 pub mod header;
 mod nodes;
 pub mod rows;

@@ -1,4 +1,4 @@
-// The hash chain's node numbers, against the tree over the shares.
+// The hash chain's node numbers, against the tree over the shares; the depth of a tree.
 use crate::header::HASH_SIZE;
 use octets::numbers;
 ghost use mathlib.Core.Path.{_≡_};
@@ -11,16 +11,16 @@ ghost use Rattle.octets.specs.Lists.{anyOf};
 // An entry of the chain: a node number of 2 bytes, and its hash.
 pub(crate) const CHAIN_ENTRY_SIZE: usize = 2 + HASH_SIZE;
 
-// The tree over the shares: its depth c, the least with 2^c at or above their number, and its 2^c leaves.
+// The tree over n leaves or shares: its depth c, the least with 2^c at or above n, and its 2^c leaves.
 pub(crate) struct Over {
     pub(crate) depth: usize,
-    pub(crate) leaves: usize,
+    pub(crate) leaves: u64,
 }
 
-pub(crate) fn tree_over(total: u8) -> Over
-    ensures { λ r. ⌜ (r .depth ≡ depth total) × (r .leaves ≡ power (depth total)) ⌝ }
+pub(crate) fn tree_over(n: u64) -> Over
+    requires { ⌜ n ≤ 4611686018427387904 ⌝ }
+    ensures { λ r. ⌜ (r .depth ≡ depth n) × (r .leaves ≡ power (depth n)) ⌝ }
 {
-    let n = total as usize;
     let mut depth = 0;
     let mut leaves = 1;
     while leaves < n {
@@ -48,7 +48,7 @@ fn occurs(s: &[u8], x: u16, n: usize, p: usize) -> bool
 }
 
 // Whether of the n node numbers from p on each is below `top` and none comes again.
-pub(crate) fn nodes_ok(s: &[u8], top: usize, n: usize, p: usize) -> bool
+pub(crate) fn nodes_ok(s: &[u8], top: u64, n: usize, p: usize) -> bool
     requires { ⌜ p + chainEntrySize * n ≤ length (now s) ⌝ }
     ensures { λ r. ⌜ r ≡ nodesOk top (nodesFrom n p (now (s .entry))) ⌝ }
 {
@@ -56,7 +56,7 @@ pub(crate) fn nodes_ok(s: &[u8], top: usize, n: usize, p: usize) -> bool
     let mut at = p;
     while 0 < left {
         let x = numbers::u16_at(s, at);
-        if top <= x as usize {
+        if top <= x as u64 {
             return false;
         }
         left -= 1;

@@ -1,4 +1,4 @@
--- Demand 1 of the writer, and when it is done. Assumes nothing.
+-- Demand 1 of the writers, and when they are done. Assumes nothing.
 use mathlib.Core.Path.{_≡_, refl, sym, _∙_}
 use mathlib.Core.Bool.{Bool, true, false}
 use mathlib.Core.List.{List}
@@ -14,13 +14,13 @@ use Rattle.octets.proofs.MoveLaws.{put-length, put-beyond}
 use Rattle.octets.proofs.RowLaws.{first-among}
 use Rattle.share_format.specs.Parts.{Share, shareLength, encode}
 use Rattle.share_format.specs.Rows.{contentRows}
-use Rattle.share_writing.specs.Writing.{writeRows, writeOutcome, writtenAnswer, spaceAfter}
+use Rattle.share_writing.specs.Writing.{rowsOf, writeRows, writeOutcome, writtenAnswer, spaceAfter}
 use Rattle.share_writing.specs.Claims.{writerNumbers, Demand1Writer, WritesExactly}
-use Rattle.share_writing.proofs.WritingLaws.{writable, written, share-length}
+use Rattle.share_writing.proofs.WritingLaws.{writable, written}
 use Rattle.share_writing.proofs.WrittenBack.{length-encode}
 
 number-among : (x : Share) (n : ℕ) → Among (writeOutcome x n) writerNumbers
-unfolding writeOutcome writeRows contentRows
+unfolding writeOutcome writeRows rowsOf contentRows
 number-among x n = first-among (writeRows x n)
 
 -- ---- refused, and done
@@ -46,7 +46,7 @@ module _ (x : Share) (d : List ℕ) where
     encoded = let w = writable x (length d) z in length-encode x (w .root-size) (w .iv-size)
 
     inside : 0 + length (encode x) ≤ length d
-    inside = let w = writable x (length d) z in omega (arith, encoded, share-length x, w .room)
+    inside = let w = writable x (length d) z in omega (arith, encoded, w .room)
 
     pub done-share : take (writtenAnswer x (length d) .length) (spaceAfter x d) ≡ encode x
     done-share =

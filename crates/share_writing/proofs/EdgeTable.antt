@@ -1,8 +1,10 @@
--- The edge table of the writer: closed cases by computing, and one over any key of its length. Assumes nothing.
+-- The edge tables of the writers: closed cases by computing, and one over any key of its length. Assumes nothing.
 use mathlib.Core.Path.{_≡_, refl}
-use mathlib.Core.Bool.{true}
+use mathlib.Core.Bool.{Bool, true, false}
+use mathlib.Core.List.{List, map}
 use Prim.Native.Nat.{ℕ, _≤_}
 use native.Mathlib.Omega.{arith}
+use lib.Dec.{eqb}
 use lib.ListN.{length}
 use borrow.Author.Tests.{eq-eqb}
 use Rattle.octets.specs.Facts.{Fits64}
@@ -10,30 +12,60 @@ use Rattle.octets.specs.Lists.{anyOf, sum}
 use Rattle.octets.specs.Numbers.{numberAfter, number, numberAt, digits, fits}
 use Rattle.octets.specs.Rows.{firstRow}
 use Rattle.octets.specs.Strings.{join}
-use Rattle.octets.proofs.ListLaws.{by-refuting}
-use Rattle.share_format.specs.Bounds.{packed}
-use Rattle.share_format.specs.Header.{hashSize, ivSize, numberFields, offsetFields, offsetsFit}
+use Rattle.octets.proofs.ListLaws.{both, by-refuting}
+use Rattle.share_format.specs.Bounds.{inOrder, packed}
+use Rattle.share_format.specs.Header.{hashSize, saltSize, digitsOf, eachFits, toldOf, numberFields, offsetFields}
+use Rattle.share_format.specs.Header.{offsetsFit}
 use Rattle.share_format.specs.Nodes.{depthFrom, depth, power, nodesFrom, nodesOk}
-use Rattle.share_format.specs.Parts.{Share, partList, leastMultiple, segmentOf, placesOf, shareLength, encode}
-use Rattle.share_format.specs.Rows.{codingOk, chainOk, treeOk, blockOk, contentRows}
-use Rattle.share_writing.specs.Writing.{sizesOk, placedOk, writeRows, writeOutcome, writtenAnswer, spaceAfter}
-use Rattle.share_writing.specs.Edges.{WriterEdgesHold}
-use Rattle.share_format.proofs.HeaderLaws.{fits-64}
-use Rattle.share_writing.proofs.WritingLaws.{write-25, placed-facts}
+use Rattle.share_format.specs.Parts.{Sdmf, sdmf, partList, leastMultiple, placesOf, shareLength, encode}
+use Rattle.share_format.specs.Rows.{codingOk, segmentOk, placedOk, chainOk, roundedUp, segments, treeSize, treeOk}
+use Rattle.share_format.specs.Rows.{blocksSize, blocksOk, contentRows}
+use Rattle.share_format.proofs.HeaderLaws.{fits-64, offset-facts}
+use Rattle.share_format.proofs.RowLaws.{tree-few}
+use Rattle.share_writing.specs.Writing.{sizesOk, segmentFits, boundsFit, rowsOf, writeRows, writeOutcome}
+use Rattle.share_writing.specs.Writing.{writtenAnswer, spaceAfter}
+use Rattle.share_writing.specs.Edges.{segmented, into, resultOf, refused, WriterEdgesHold}
+use Rattle.share_writing.proofs.WritingLaws.{rows-25}
 
-far-offset : (x : Share) (n : ℕ) → length (x .root) ≡ hashSize → length (x .iv) ≡ ivSize → shareLength x ≤ n
-    → codingOk (x .required) (x .total) ≡ true → Fits64 (segmentOf x) → 4294967189 ≤ length (x .key)
-    → writeOutcome x n ≡ 25
-unfolding sizesOk placesOf partList packed
+-- The signature stands behind the key.
+narrow : (x : Sdmf) → 4294967189 ≤ length (x .key) → offsetsFit false (packed 107 (map length (partList (sdmf x)))) ≡ true
+    → ⊥
+unfolding partList packed toldOf
+narrow x key h = let o = offset-facts false _ h .0 in omega (arith, o)
+
+far-offset : (x : Sdmf) (n : ℕ) → length (x .root) ≡ hashSize → length (x .iv) ≡ saltSize → shareLength (sdmf x) ≤ n
+    → codingOk (x .required) (x .total) ≡ true → Fits64 (leastMultiple (x .required) (x .dataLength))
+    → 4294967189 ≤ length (x .key) → writeOutcome (sdmf x) n ≡ 25
+unfolding sizesOk segmentFits segmentOk boundsFit writeOutcome writeRows shareLength
 far-offset x n hr hs room coding segment key =
-    write-25 x n (rw (eq-eqb _ _ hr, eq-eqb _ _ hs)) room coding (fits-64 _ segment)
-    (by-refuting _
-    (λ e.
-    let o = placed-facts (x .key) (x .signature) (x .privateKey) (placesOf x) e .3 .signature in
-    omega (arith, o)))
+    let m : ℕ = leastMultiple (x .required) (x .dataLength) in
+    let bs : List ℕ = packed 107 (map length (partList (sdmf x))) in
+    rows-25 false (x .sequence) (x .root) (x .iv) (x .required) (x .total) m (x .dataLength)
+    (map length (partList (sdmf x))) (x .chain) (x .tree) (x .shareData) n
+    (rw (eq-eqb _ _ hr, eq-eqb _ _ hs)) room coding (rw (fits-64 m segment, eq-eqb m m refl))
+    (by-refuting _ (λ e. narrow x key (both (placedOk false bs) (offsetsFit false bs) e .1)))
+
+-- A tree with fewer hashes than there are segments.
+small-tree : eqb 32 (treeSize 6148914691236517205) ≡ false
+small-tree = tree-few 6148914691236517205 32 (λ z. omega (arith, z)) (omega arith)
+
+many-segments : resultOf (into (segmented 3 3 18446744073709551615 20 32) 405) ≡ refused 27
+unfolding anyOf sum numberAfter number numberAt digits fits firstRow join inOrder packed eachFits toldOf offsetsFit
+    depthFrom depth power nodesFrom nodesOk partList codingOk segmentOk placedOk chainOk roundedUp segments treeOk
+    contentRows sizesOk segmentFits boundsFit rowsOf writeRows writeOutcome writtenAnswer
+many-segments = rw small-tree
 
 pub edges : WriterEdgesHold
-unfolding anyOf sum numberAfter number numberAt digits fits firstRow join packed numberFields offsetFields offsetsFit
-    depthFrom depth power nodesFrom nodesOk partList leastMultiple segmentOf placesOf shareLength encode codingOk
-    chainOk treeOk blockOk contentRows sizesOk placedOk writeRows writeOutcome writtenAnswer spaceAfter
-edges = record { table = refl; whole = refl; far = far-offset }
+unfolding anyOf sum numberAfter number numberAt digits fits firstRow join inOrder packed digitsOf eachFits toldOf
+    numberFields offsetFields offsetsFit depthFrom depth power nodesFrom nodesOk partList leastMultiple placesOf
+    shareLength encode codingOk segmentOk placedOk chainOk roundedUp segments treeSize treeOk blocksSize blocksOk
+    contentRows sizesOk segmentFits boundsFit rowsOf writeRows writeOutcome writtenAnswer spaceAfter
+edges =
+    record {
+      table = refl;
+      mdmf-table = refl;
+      many = many-segments;
+      whole = refl;
+      mdmf-whole = refl;
+      far = far-offset;
+    }

@@ -1,211 +1,331 @@
 -- The round trip from the bytes: a share that is accepted is writable into any space that has room for it, and is
--- written as it was. Assumes nothing.
+-- written as it was, for both editions. Assumes nothing.
 use mathlib.Core.Path.{_≡_, refl, sym, ap, _∙_}
-use mathlib.Core.Bool.{true}
-use mathlib.Core.List.{List, [], _∷_, map}
+use mathlib.Core.Bool.{Bool, true, false}
+use mathlib.Core.List.{List, [], _∷_, _++_, map, append-assoc}
 use Prim.Native.Nat.{ℕ, suc, _+_, _-_, _≤_, _<_}
+use native.Mathlib.Nat.{sub-self}
 use native.Mathlib.Omega.{arith}
-use lib.Dec.{ltb}
-use lib.ListN.{length, take, drop, getD, length-drop}
+use lib.Dec.{eqb}
+use lib.ListN.{length, take, drop, getD, length-drop, length-take, take-append-drop}
 use lib.Seq.{drop-cons, length-take-le}
-use borrow.Author.Tests.{eqb-true, eq-eqb, ltb-false, lt-ltb, not-false}
-use Rattle.octets.specs.Facts.{Octets}
+use borrow.Author.Tests.{eqb-true, eqb-false, eq-eqb, ltb-false, not-false}
+use Rattle.octets.specs.Facts.{Each, Octets}
+use Rattle.octets.specs.Lists.{sum}
 use Rattle.octets.specs.Numbers.{numberAt, digits}
 use Rattle.octets.specs.Rows.{firstRow}
 use Rattle.octets.specs.Strings.{join}
-use Rattle.octets.proofs.ListLaws.{both}
+use Rattle.octets.proofs.ListLaws.{both, field-then}
 use Rattle.octets.proofs.NumberLaws.{digits-at, numberAt-below}
 use Rattle.octets.proofs.RowLaws.{clear}
 use Rattle.octets.proofs.StringLaws.{octets-take, octets-drop}
-use Rattle.share_format.specs.Bounds.{Bound, from, inOrder, partOf, packed}
+use Rattle.share_format.specs.Bounds.{inOrder, partOf, packed}
 use Rattle.share_format.specs.Claims.{OctetShare}
-use Rattle.share_format.specs.Header.{sequenceAt, rootAt, ivAt, requiredAt, totalAt, segmentAt, lengthAt, chainField}
-use Rattle.share_format.specs.Header.{treeField, shareDataField, privateKeyField, endField}
-use Rattle.share_format.specs.Header.{hashSize, ivSize, numberSize, offsetSize, farOffsetSize, signatureField, keyAt}
-use Rattle.share_format.specs.Header.{version, root, iv, required, total, segmentSize, dataLength}
-use Rattle.share_format.specs.Header.{boundsOf, numberFields, offsetFields, offsetsFit}
-use Rattle.share_format.specs.Parts.{partList, readBy, shareOf, leastMultiple, segmentOf, placesOf}
-use Rattle.share_format.specs.Parts.{shareLength, encode}
-use Rattle.share_format.specs.Rows.{codingOk, offsets, ordered, headRows, laidRows, bodyRows, shareOutcome}
-use Rattle.share_format.proofs.BoundLaws.{places, lastOf, part-length}
-use Rattle.share_format.proofs.HeaderLaws.{fits-64, offsets-fit}
+use Rattle.share_format.specs.Header.{Edition, versionOf, version, editionOf, sequenceAt, rootAt, ivAt, requiredAt}
+use Rattle.share_format.specs.Header.{totalAt, segmentAt, lengthAt, hashSize, ivSize, numberSize, offsetSizes, offsetsAt}
+use Rattle.share_format.specs.Header.{headerSize, sequence, root, iv, required, total, segmentSize, dataLength}
+use Rattle.share_format.specs.Header.{numbersFrom, offsetsOf, boundsOf, toldOf, numberFields, offsetFields, offsetsFit}
+use Rattle.share_format.specs.Parts.{Share, editionIn, sequenceIn, rootIn, ivIn, requiredIn, totalIn, segmentIn}
+use Rattle.share_format.specs.Parts.{lengthIn, chainIn, treeIn, shareDataIn, partList, readBy, shareOf, leastMultiple}
+use Rattle.share_format.specs.Parts.{placesOf, shareLength, encode, chainPart, treePart, shareDataPart}
+use Rattle.share_format.specs.Rows.{codingOk, segmentOk, leastSizes, placedOk, ordered, headRows, laidRows, bodyRows}
+use Rattle.share_format.specs.Rows.{shareOutcome, contentRows}
+use Rattle.share_format.proofs.BoundLaws.{lastOf}
+use Rattle.share_format.proofs.HeaderLaws.{fits-64, offsets-fit, sizes-sum, numbers-again, numbers-fit}
 use Rattle.share_format.proofs.PackedLaws.{partsBetween, between-packed, between-join}
-use Rattle.share_format.proofs.RowLaws.{order-facts, bounds-inside}
+use Rattle.share_format.proofs.RowLaws.{order-facts, placed-tail, placed-order, placed-last, outcome-ordered}
 use Rattle.share_writing.specs.Claims.{Writable}
-use Rattle.share_writing.specs.Writing.{sizesOk, placedOk}
-use Rattle.share_writing.proofs.WritingLaws.{share-joined, write-rest, writable}
-use Rattle.share_writing.proofs.WrittenBack.{fields, encode-joined}
+use Rattle.share_writing.specs.Writing.{sizesOk, segmentFits, boundsFit}
+use Rattle.share_writing.proofs.WritingLaws.{share-joined, done, writable}
+use Rattle.share_writing.proofs.WrittenBack.{numbers}
 
--- ---- bytes
+-- ---- what holds where no row applies
+record Accepted (e : Edition) (s : List ℕ) : Type 0 where
+  pub long : headerSize e ≤ length s
+  pub version : version s ≡ versionOf e
+  pub coding : codingOk (required e s) (total e s) ≡ true
+  pub segment : segmentOk e (segmentSize e s) (required e s) (dataLength e s) ≡ true
+  pub order : ordered e s ≡ true
+  pub content : firstRow (laidRows e (boundsOf e s) s) ≡ 0
+
+-- A version below 2 is that of the edition that it names.
+version-is : (v : ℕ) → v ≤ 1 → v ≡ versionOf (eqb v 1)
+version-is v h = go (eqb v 1) refl
+  where
+    go : (t : Bool) → eqb v 1 ≡ t → v ≡ versionOf t
+    go true e = eqb-true v 1 e
+    go false e = let k = eqb-false v 1 e in below-one k
+      where
+        below-one : (v ≡ 1 → ⊥) → v ≡ 0
+        below-one k = omega arith
+
+accepted : (s : List ℕ) → shareOutcome s ≡ 0 → Accepted (editionOf s) s
+unfolding shareOutcome headRows bodyRows editionOf
+accepted s z =
+    let a = clear 21 _ _ (omega arith) z in
+    let b = clear 22 _ _ (omega arith) (a .1) in
+    let c = clear 23 _ _ (omega arith) (b .1) in
+    let d = clear 24 _ _ (omega arith) (c .1) in
+    let f = clear 25 _ _ (omega arith) (d .1) in
+    record {
+      long = ltb-false _ _ (a .0);
+      version = version-is (version s) (ltb-false _ _ (b .0));
+      coding = not-false _ (c .0);
+      segment = not-false _ (d .0);
+      order = not-false _ (f .0);
+      content = f .1;
+    }
+
+-- ---- what reading gives
+-- A field of one byte.
+byte-at : (c : List ℕ) (a : ℕ) → a < length c → take 1 (drop a c) ≡ getD c a 0 ∷ []
+byte-at c a h = rw (drop-cons c a 0 h)
+
+-- The numbers of what is read.
+record Reads (e : Edition) (bs s : List ℕ) : Type 0 where
+  pub edition : editionIn (readBy e bs s) ≡ e
+  pub sequence : sequenceIn (readBy e bs s) ≡ sequence s
+  pub root : rootIn (readBy e bs s) ≡ root s
+  pub iv : ivIn (readBy e bs s) ≡ iv e s
+  pub required : requiredIn (readBy e bs s) ≡ required e s
+  pub total : totalIn (readBy e bs s) ≡ total e s
+  pub length : lengthIn (readBy e bs s) ≡ dataLength e s
+  pub chain : chainIn (readBy e bs s) ≡ partOf (chainPart e) bs s
+  pub tree : treeIn (readBy e bs s) ≡ partOf (treePart e) bs s
+  pub shareData : shareDataIn (readBy e bs s) ≡ partOf (shareDataPart e) bs s
+
+reads : (e : Edition) (bs s : List ℕ) → Reads e bs s
+unfolding readBy
+reads false bs s =
+    record {
+      edition = refl;
+      sequence = refl;
+      root = refl;
+      iv = refl;
+      required = refl;
+      total = refl;
+      length = refl;
+      chain = refl;
+      tree = refl;
+      shareData = refl;
+    }
+reads true bs s =
+    record {
+      edition = refl;
+      sequence = refl;
+      root = refl;
+      iv = refl;
+      required = refl;
+      total = refl;
+      length = refl;
+      chain = refl;
+      tree = refl;
+      shareData = refl;
+    }
+
+segment-read : (e : Edition) (bs s : List ℕ) → segmentOk e (segmentSize e s) (required e s) (dataLength e s) ≡ true
+    → segmentIn (readBy e bs s) ≡ segmentSize e s
+unfolding readBy segmentOk
+segment-read false bs s h = sym (eqb-true _ _ h)
+segment-read true bs s h = refl
+
+-- The parts that are read are those between the boundaries; SDMF's seventh is empty.
+parts-read : (e : Edition) (s : List ℕ)
+    → partList (readBy e (boundsOf e s) s) ≡ partsBetween (getD (boundsOf e s) 0 0) (drop 1 (boundsOf e s)) s
+unfolding readBy partList boundsOf offsetsOf numbersFrom partOf partsBetween
+parts-read false s = rw (sub-self)
+parts-read true s = refl
+
+-- The offsets are those that the boundaries tell.
+told-read : (e : Edition) (s : List ℕ) → toldOf e (boundsOf e s) ≡ offsetsOf e s
+unfolding toldOf boundsOf offsetsOf numbersFrom
+told-read false s = refl
+told-read true s = refl
+
 octets-part : (i : ℕ) (bounds s : List ℕ) → Octets s → Octets (partOf i bounds s)
 unfolding partOf
 octets-part i bounds s o =
     let a : ℕ = getD bounds i 0 in
     octets-take (getD bounds (suc i) 0 - a) (drop a s) (octets-drop a s o)
 
-pub octets-share : (s : List ℕ) → Octets s → OctetShare (shareOf s)
-unfolding shareOf readBy
-octets-share s o =
+octets-none : Octets []
+octets-none i = omega arith
+
+octets-read : (e : Edition) (bs s : List ℕ) → Octets s → OctetShare (readBy e bs s)
+unfolding readBy partList
+octets-read false bs s o =
     record {
       sequence = numberAt-below numberSize sequenceAt s o;
       root = octets-take hashSize (drop rootAt s) (octets-drop rootAt s o);
-      iv = octets-take ivSize (drop ivAt s) (octets-drop ivAt s o);
-      required = o requiredAt;
-      total = o totalAt;
-      dataLength = numberAt-below numberSize lengthAt s o;
-      key = octets-part 0 (boundsOf s) s o;
-      signature = octets-part 1 (boundsOf s) s o;
-      chain = octets-part 2 (boundsOf s) s o;
-      tree = octets-part 3 (boundsOf s) s o;
-      shareData = octets-part 4 (boundsOf s) s o;
-      privateKey = octets-part 5 (boundsOf s) s o;
+      iv = octets-take (ivSize false) (drop ivAt s) (octets-drop ivAt s o);
+      required = o (requiredAt false);
+      total = o (totalAt false);
+      segment = tt;
+      dataLength = numberAt-below numberSize (lengthAt false) s o;
+      parts =
+          let p : (i : ℕ) → Octets (partOf i bs s) = λ i. octets-part i bs s o in
+          (p 0, (p 1, (p 2, (p 3, (p 4, (p 5, (octets-none, tt)))))));
     }
-
--- ---- what holds where no row applies
-record Accepted (s : List ℕ) : Type 0 where
-  pub long : keyAt ≤ length s
-  pub version : version s ≡ 0
-  pub coding : codingOk (required s) (total s) ≡ true
-  pub segment : segmentSize s ≡ leastMultiple (required s) (dataLength s)
-  pub order : ordered s ≡ true
-  pub content : firstRow (laidRows s) ≡ 0
-
-accepted : (s : List ℕ) → shareOutcome s ≡ 0 → Accepted s
-unfolding shareOutcome headRows bodyRows
-accepted s z =
-    let a = clear 21 _ _ (omega arith) z in
-    let b = clear 22 _ _ (omega arith) (a .1) in
-    let c = clear 23 _ _ (omega arith) (b .1) in
-    let d = clear 24 _ _ (omega arith) (c .1) in
-    let e = clear 25 _ _ (omega arith) (d .1) in
+octets-read true bs s o =
     record {
-      long = ltb-false _ _ (a .0);
-      version = eqb-true _ _ (not-false _ (b .0));
-      coding = not-false _ (c .0);
-      segment = eqb-true _ _ (not-false _ (d .0));
-      order = not-false _ (e .0);
-      content = e .1;
+      sequence = numberAt-below numberSize sequenceAt s o;
+      root = octets-take hashSize (drop rootAt s) (octets-drop rootAt s o);
+      iv = octets-none;
+      required = o (requiredAt true);
+      total = o (totalAt true);
+      segment = numberAt-below numberSize (segmentAt true) s o;
+      dataLength = numberAt-below numberSize (lengthAt true) s o;
+      parts =
+          let p : (i : ℕ) → Octets (partOf i bs s) = λ i. octets-part i bs s o in
+          (p 0, (p 1, (p 2, (p 3, (p 4, (p 5, (p 6, tt)))))));
     }
+
+pub octets-share : (s : List ℕ) → Octets s → OctetShare (shareOf s)
+unfolding shareOf
+octets-share s o = octets-read (editionOf s) (boundsOf (editionOf s) s) s o
 
 -- ---- the bytes again
--- A field of one byte.
-byte-at : (c : List ℕ) (a : ℕ) → a < length c → take 1 (drop a c) ≡ getD c a 0 ∷ []
-byte-at c a h = rw (drop-cons c a 0 h)
+-- Fields one after the other before a rest.
+unfoldable spread : List (List ℕ) → List ℕ → List ℕ
+spread [] t = t
+spread (b ∷ bs) t = b ++ spread bs t
 
--- The boundaries of header fields and parts.
-abbrev fieldBounds : List ℕ → List Bound
-fieldBounds s =
-    from sequenceAt ∷ from rootAt ∷ from ivAt ∷ from requiredAt ∷ from totalAt ∷ from segmentAt ∷ from lengthAt
-    ∷ from signatureField ∷ from chainField ∷ from treeField ∷ from shareDataField ∷ from privateKeyField
-    ∷ from endField ∷ from keyAt ∷ offsets s
+join-spread : (bs : List (List ℕ)) (t : List ℕ) → join bs ++ t ≡ spread bs t
+unfolding join spread
+join-spread [] t = refl
+join-spread (b ∷ bs) t = append-assoc b (join bs) t ∙ ap (λ (l : List ℕ). b ++ l) (join-spread bs t)
 
-module _ (s : List ℕ) (f : Accepted s) where
-  in-order : inOrder keyAt (offsets s) ≡ true
-  unfolding ordered
-  in-order = both _ _ (f .order) .0
+module _ (e : Edition) (s : List ℕ) (f : Accepted e s) where
+  abbrev bs : List ℕ
+  bs = boundsOf e s
 
-  ends : lastOf keyAt (offsets s) ≡ length s
-  unfolding lastOf
-  ends = order-facts s (f .order) .whole
+  abbrev x : Share
+  x = readBy e bs s
 
-  -- Parts and places are those between the offsets.
-  parts-are : partList (shareOf s) ≡ partsBetween keyAt (offsets s) s
-  unfolding partList shareOf readBy boundsOf partOf partsBetween
-  parts-are = refl
+  r : Reads e bs s
+  r = reads e bs s
 
-  places-are : placesOf (shareOf s) ≡ boundsOf s
-  unfolding placesOf places boundsOf
+  placed : placedOk e bs ≡ true
+  placed = order-facts e s (f .order) .0
+
+  ends : getD bs 7 0 ≡ length s
+  ends = order-facts e s (f .order) .1
+
+  tail : bs ≡ headerSize e ∷ drop 1 bs
+  tail = placed-tail e bs s placed ends
+
+  order : inOrder (leastSizes e) (headerSize e) (drop 1 bs) ≡ true
+  order = placed-order e bs s placed ends
+
+  last : lastOf (headerSize e) (drop 1 bs) ≡ length s
+  last = placed-last e bs s placed ends
+
+  parts-are : partList x ≡ partsBetween (headerSize e) (drop 1 bs) s
+  parts-are =
+      let h : getD bs 0 0 ≡ headerSize e = ap (λ (l : List ℕ). getD l 0 0) tail in
+      parts-read e s ∙ ap (λ (a : ℕ). partsBetween a (drop 1 bs) s) h
+
+  places-are : placesOf x ≡ bs
+  unfolding placesOf
   places-are =
-      ap (λ (ps : List (List ℕ)). packed keyAt (map length ps)) parts-are
-      ∙ between-packed keyAt (offsets s) s in-order ends
+      rw (r .edition, parts-are) (between-packed (leastSizes e) (headerSize e) (drop 1 bs) s order last ∙ sym tail)
 
-  size-again : shareLength (shareOf s) ≡ length s
-  size-again =
-      rw (share-joined (shareOf s), parts-are, between-join keyAt (offsets s) s in-order ends, length-drop)
-      (omega (arith, f .long))
+  parts-joined : join (partList x) ≡ drop (headerSize e) s
+  parts-joined = ap join parts-are ∙ between-join (leastSizes e) (headerSize e) (drop 1 bs) s order last
 
-  segment-is : segmentOf (shareOf s) ≡ segmentSize s
-  unfolding segmentOf shareOf readBy
-  segment-is = sym (f .segment)
+  size-again : shareLength x ≡ length s
+  size-again = rw (share-joined x, r .edition, parts-joined, length-drop) (omega (arith, f .long))
 
-  fields-are : Octets s → fields (shareOf s) ≡ partsBetween 0 (fieldBounds s) s
-  unfolding numberFields offsetFields partsBetween shareOf readBy boundsOf
-  fields-are o =
-      let first : take 1 s ≡ 0 ∷ [] = byte-at s 0 (omega arith) ∙ ap (λ (v : ℕ). v ∷ []) (f .version) in
-      let as-digits : (n a : ℕ) → a + n ≤ keyAt → take n (drop a s) ≡ digits n (numberAt n a s) =
-      λ n a h. digits-at s n a (numberAt n a s) (omega arith) o refl in
-      rw (segment-is, places-are, parts-are, first, byte-at s requiredAt (omega arith), byte-at s totalAt (omega arith))
-      (rw (
-        as-digits numberSize sequenceAt (omega arith),
-        as-digits numberSize segmentAt (omega arith),
-        as-digits numberSize lengthAt (omega arith),
-        as-digits offsetSize signatureField (omega arith),
-        as-digits offsetSize chainField (omega arith),
-        as-digits offsetSize treeField (omega arith),
-        as-digits offsetSize shareDataField (omega arith),
-        as-digits farOffsetSize privateKeyField (omega arith),
-        as-digits farOffsetSize endField (omega arith),
-      ))
+  segment-is : segmentIn x ≡ segmentSize e s
+  segment-is = segment-read e bs s (f .segment)
 
-  bytes-again : Octets s → encode (shareOf s) ≡ s
-  unfolding inOrder lastOf
+  offsets-are : Octets s
+      → drop (offsetsAt e) s ≡ join (offsetFields (editionIn x) (placesOf x)) ++ drop (headerSize e) s
+  unfolding offsetFields offsetsOf
+  offsets-are o =
+      rw (r .edition, places-are, told-read e s, ← sizes-sum e)
+      (numbers-again s (offsetsAt e) (offsetSizes e) o (omega (arith, sizes-sum e, f .long)))
+
+  numbers-are : Octets s → s ≡ join (numbers x) ++ drop (offsetsAt e) s
+  unfolding numberFields spread
+  numbers-are o =
+      let number : (a : ℕ) → a + numberSize ≤ headerSize e
+      → take numberSize (drop a s) ≡ digits numberSize (numberAt numberSize a s) =
+      λ a h. digits-at s numberSize a (numberAt numberSize a s) (omega (arith, f .long)) o refl in
+      let byte : (a : ℕ) → a < headerSize e → take 1 (drop a s) ≡ getD s a 0 ∷ [] =
+      λ a h. byte-at s a (omega (arith, f .long)) in
+      let first : take 1 s ≡ versionOf e ∷ [] =
+      byte 0 (omega arith) ∙ ap (λ (v : ℕ). v ∷ []) (f .version) in
+      let l = field-then s (lengthAt e) numberSize (offsetsAt e) _ _ refl (number (lengthAt e) (omega arith)) refl in
+      let g = field-then s (segmentAt e) numberSize (lengthAt e) _ _ refl (number (segmentAt e) (omega arith)) l in
+      let n = field-then s (totalAt e) 1 (segmentAt e) _ _ refl (byte (totalAt e) (omega arith)) g in
+      let k = field-then s (requiredAt e) 1 (totalAt e) _ _ refl (byte (requiredAt e) (omega arith)) n in
+      let i = field-then s ivAt (ivSize e) (requiredAt e) _ _ refl refl k in
+      let h = field-then s rootAt hashSize ivAt _ _ refl refl i in
+      let q = field-then s sequenceAt numberSize rootAt _ _ refl (number sequenceAt (omega arith)) h in
+      rw (r .edition, r .sequence, r .root, r .iv, r .required, r .total, segment-is, r .length)
+      (field-then s 0 1 sequenceAt _ _ refl first q ∙ sym (join-spread _ (drop (offsetsAt e) s)))
+
+  bytes-again : Octets s → encode x ≡ s
+  unfolding encode
   bytes-again o =
-      encode-joined (shareOf s) ∙ ap join (fields-are o) ∙ between-join 0 (fieldBounds s) s in-order ends
+      ap (λ (l : List ℕ). join (numbers x) ++ (join (offsetFields (editionIn x) (placesOf x)) ++ l)) parts-joined
+      ∙ ap (λ (l : List ℕ). join (numbers x) ++ l) (sym (offsets-are o))
+      ∙ sym (numbers-are o)
 
   -- ---- the writer's rows
-  sizes-again : sizesOk (shareOf s .root) (shareOf s .iv) ≡ true
-  unfolding sizesOk shareOf readBy
+  sizes-again : sizesOk (editionIn x) (rootIn x) (ivIn x) ≡ true
+  unfolding sizesOk
   sizes-again =
-      let r : length (root s) ≡ hashSize = length-take-le hashSize (drop rootAt s) (rw length-drop (omega arith)) in
-      let t : length (iv s) ≡ ivSize = length-take-le ivSize (drop ivAt s) (rw length-drop (omega arith)) in
-      rw (eq-eqb _ _ r, eq-eqb _ _ t)
+      let h : length (root s) ≡ hashSize =
+      length-take-le hashSize (drop rootAt s) (rw length-drop (omega (arith, f .long))) in
+      let i : length (iv e s) ≡ ivSize e =
+      length-take-le (ivSize e) (drop ivAt s) (rw length-drop (omega (arith, f .long))) in
+      rw (r .edition, r .root, r .iv, eq-eqb _ _ h, eq-eqb _ _ i)
 
-  coding-again : codingOk (shareOf s .required) (shareOf s .total) ≡ true
-  unfolding shareOf readBy
-  coding-again = f .coding
-
-  fit-again : Octets s → offsetsFit (placesOf (shareOf s)) ≡ true
-  unfolding boundsOf
+  fit-again : Octets s → offsetsFit (editionIn x) (placesOf x) ≡ true
+  unfolding offsetsOf
   fit-again o =
-      rw places-are (offsets-fit (boundsOf s) (record {
-        signature = numberAt-below offsetSize signatureField s o;
-        chain = numberAt-below offsetSize chainField s o;
-        tree = numberAt-below offsetSize treeField s o;
-        shareData = numberAt-below offsetSize shareDataField s o;
-      }) (record {
-        privateKey = numberAt-below farOffsetSize privateKeyField s o;
-        rest = numberAt-below farOffsetSize endField s o;
-      }))
+      rw (r .edition, places-are)
+      (offsets-fit e bs (rw (told-read e s) (numbers-fit s (offsetsAt e) (offsetSizes e) o)))
 
-  -- a part between two boundaries that differ is not empty
-  some-part : (i : ℕ) → i < 6 → getD (boundsOf s) i 0 < getD (boundsOf s) (suc i) 0
-      → ltb 0 (length (partOf i (boundsOf s) s)) ≡ true
-  some-part i h l =
-      let k = part-length (boundsOf s) s i (bounds-inside s i (f .order) h) in
-      lt-ltb 0 (length (partOf i (boundsOf s) s)) (omega arith)
-
-  placed-again : Octets s
-      → placedOk (shareOf s .key) (shareOf s .signature) (shareOf s .privateKey) (placesOf (shareOf s)) ≡ true
-  unfolding placedOk shareOf readBy boundsOf
-  placed-again o =
-      let k = order-facts s (f .order) in
-      rw (
-        some-part 0 (omega arith) (k .signature),
-        some-part 1 (omega arith) (k .chain),
-        some-part 5 (omega arith) (k .rest),
-      ) (fit-again o)
-
-  writable-again : (n : ℕ) → Octets s → length s ≤ n → Writable (shareOf s) n
-  unfolding laidRows
+  writable-again : (n : ℕ) → Octets s → length s ≤ n → Writable x n
+  unfolding segmentFits boundsFit laidRows
   writable-again n o h =
-      let room : shareLength (shareOf s) ≤ n = rw size-again h in
-      let segment = fits-64 (segmentOf (shareOf s)) (rw segment-is (numberAt-below numberSize segmentAt s o)) in
-      writable (shareOf s) n (write-rest (shareOf s) n sizes-again room coding-again segment (placed-again o)
-      ∙ rw segment-is (f .content))
+      writable x n (done x n (record {
+        sizes = sizes-again;
+        room = rw size-again h;
+        coding = rw (r .required, r .total) (f .coding);
+        segment =
+            rw (
+              r .edition,
+              segment-is,
+              r .required,
+              r .length,
+              fits-64 (segmentSize e s) (numberAt-below numberSize (segmentAt e) s o),
+            )
+            (f .segment);
+        placed = rw (fit-again o, r .edition, places-are, placed);
+        content =
+            rw (
+              r .edition,
+              r .sequence,
+              r .required,
+              r .total,
+              segment-is,
+              r .length,
+              r .chain,
+              r .tree,
+              r .shareData,
+            )
+            (f .content);
+      }))
 
 -- What is accepted is writable into any space that has room for it, and is written as it was.
 pub read-again : (s : List ℕ) (n : ℕ) → Octets s → shareOutcome s ≡ 0 → length s ≤ n
     → Writable (shareOf s) n × (encode (shareOf s) ≡ s) × (shareLength (shareOf s) ≡ length s)
+unfolding shareOf
 read-again s n o z h =
+    let e : Edition = editionOf s in
     let f = accepted s z in
-    (writable-again s f n o h, bytes-again s f o, size-again s f)
+    (writable-again e s f n o h, bytes-again e s f o, size-again e s f)

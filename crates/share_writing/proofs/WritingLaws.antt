@@ -1,220 +1,285 @@
--- The writer's rows, one by one, and that they are the conditions of `Writable`. Assumes nothing.
+-- The writers' rows, one by one, and that they are the conditions of `Writable`. Assumes nothing.
 use mathlib.Core.Path.{_≡_, refl, sym, ap, _∙_}
-use mathlib.Core.Bool.{Bool, true, false, cond, _&&_}
-use mathlib.Core.List.{List, _++_, append-assoc}
+use mathlib.Core.Bool.{Bool, true, false, cond, not, _&&_}
+use mathlib.Core.List.{List, [], _∷_, _++_, map}
 use mathlib.Core.Logic.{_⊎_, inl, inr}
-use Prim.Native.Nat.{ℕ, _+_, _≤_, _<_}
+use Prim.Native.Nat.{ℕ, _+_, _%_, _≤_, _<_}
 use native.Mathlib.Omega.{arith}
-use lib.Dec.{eqb}
-use lib.ListN.{length, getD, length-append}
+use lib.Dec.{eqb, ltb}
+use lib.ListN.{length, getD}
 use borrow.Author.Tests.{eqb-true, eqb-false, eq-eqb, ne-eqb, ltb-true, ltb-false, lt-ltb, le-ltb, not-false}
+use Rattle.octets.specs.Facts.{Each, Fits64}
 use Rattle.octets.specs.Lists.{sum}
 use Rattle.octets.specs.Moves.{put}
-use Rattle.octets.specs.Numbers.{fits}
 use Rattle.octets.specs.Rows.{firstRow}
 use Rattle.octets.specs.Strings.{join}
 use Rattle.octets.proofs.ListLaws.{both}
-use Rattle.octets.proofs.MoveLaws.{put-put}
 use Rattle.octets.proofs.RowLaws.{clear}
 use Rattle.octets.proofs.StringLaws.{length-join}
 use Rattle.share_format.specs.Bounds.{packed}
-use Rattle.share_format.specs.Facts.{NarrowOffsets, FarOffsets}
-use Rattle.share_format.specs.Header.{hashSize, ivSize, numberSize, signatureField, keyAt, numberFields, offsetFields}
-use Rattle.share_format.specs.Parts.{Share, partList, segmentOf, placesOf, shareLength, encode}
-use Rattle.share_format.specs.Rows.{codingOk, chainOk, treeOk, blockOk, contentRows}
-use Rattle.share_format.proofs.HeaderLaws.{length-numbers, length-offsets, offset-facts, offsets-fit, fits-64}
-use Rattle.share_format.proofs.HeaderLaws.{within-64}
+use Rattle.share_format.specs.Facts.{EachLeast}
+use Rattle.share_format.specs.Header.{Edition, hashSize, ivSize, headerSize, numberFields, offsetFields, offsetsFit}
+use Rattle.share_format.specs.Parts.{Share, sdmf, mdmf, leastMultiple, editionIn, sequenceIn, rootIn, ivIn, requiredIn}
+use Rattle.share_format.specs.Parts.{totalIn, segmentIn, lengthIn, keyIn, signatureIn, privateKeyIn, chainIn, treeIn}
+use Rattle.share_format.specs.Parts.{shareDataIn, partList, placesOf, shareLength, encode}
+use Rattle.share_format.specs.Rows.{codingOk, segmentOk, leastSizes, placedOk, chainOk, treeOk, blocksOk, contentRows}
+use Rattle.share_format.proofs.HeaderLaws.{offset-facts, offsets-fit, fits-64, within-64, narrow-facts}
 use Rattle.share_format.proofs.NodeLaws.{nodes-facts, nodes-true}
-use Rattle.share_format.proofs.RowLaws.{coding-facts, coding-true}
-use Rattle.share_writing.specs.Writing.{sizesOk, placedOk, writeRows, writeOutcome, writtenAnswer}
-use Rattle.share_writing.specs.Writing.{spaceAfter}
-use Rattle.share_writing.specs.Claims.{Writable}
-use Rattle.share_writing.specs.Facts.{Packed, Judges}
+use Rattle.share_format.proofs.PackedLaws.{packed-head, packed-facts, packed-order, packed-last, packed-fits}
+use Rattle.share_format.proofs.RowLaws.{coding-facts, coding-true, placed-false, placed-rest, segment-some, segment-none}
+use Rattle.share_writing.specs.Writing.{sizesOk, segmentFits, boundsFit, rowsOf, writeRows, writeOutcome}
+use Rattle.share_writing.specs.Writing.{writtenAnswer, spaceAfter}
+use Rattle.share_writing.specs.Claims.{SegmentRight, TreeRight, BlocksRight, Writable}
+use Rattle.share_writing.specs.Facts.{segmentFor, Packed, HeaderFits, Judges}
 use Rattle.share_writing.specs.declared.Verdict.{Verdict}
 use Rattle.share_writing.specs.declared.Written.{Written}
 
 -- ---- the number, row by row
-module _ (x : Share) (n : ℕ) where
-  pub write-3 : sizesOk (x .root) (x .iv) ≡ false → writeOutcome x n ≡ 3
-  unfolding writeOutcome writeRows firstRow
-  write-3 h = rw h
+module _ (e : Edition) (sequence : ℕ) (root iv : List ℕ) (k n segment m : ℕ) (sizes chain tree shareData : List ℕ)
+    (space : ℕ) where
+  abbrev outcome : ℕ
+  outcome = firstRow (rowsOf e sequence root iv k n segment m sizes chain tree shareData space)
 
-  module _ (sizes : sizesOk (x .root) (x .iv) ≡ true) where
-    pub write-7 : n < shareLength x → writeOutcome x n ≡ 7
-    unfolding writeOutcome writeRows firstRow
-    write-7 h = rw (sizes, lt-ltb n (shareLength x) h)
+  pub rows-3 : sizesOk e root iv ≡ false → outcome ≡ 3
+  unfolding rowsOf firstRow
+  rows-3 h = rw h
 
-    module _ (room : shareLength x ≤ n) where
-      pub write-23 : codingOk (x .required) (x .total) ≡ false → writeOutcome x n ≡ 23
-      unfolding writeOutcome writeRows firstRow
-      write-23 h = rw (sizes, le-ltb n (shareLength x) room, h)
+  module _ (sized : sizesOk e root iv ≡ true) where
+    pub rows-7 : space < headerSize e + sum sizes → outcome ≡ 7
+    unfolding rowsOf firstRow
+    rows-7 h = rw (sized, lt-ltb space (headerSize e + sum sizes) h)
 
-      module _ (coding : codingOk (x .required) (x .total) ≡ true) where
-        pub write-24 : fits numberSize (segmentOf x) ≡ false → writeOutcome x n ≡ 24
-        unfolding writeOutcome writeRows firstRow
-        write-24 h = rw (sizes, le-ltb n (shareLength x) room, coding, h)
+    module _ (room : headerSize e + sum sizes ≤ space) where
+      pub rows-23 : codingOk k n ≡ false → outcome ≡ 23
+      unfolding rowsOf firstRow
+      rows-23 h = rw (sized, le-ltb space (headerSize e + sum sizes) room, h)
 
-        module _ (segment : fits numberSize (segmentOf x) ≡ true) where
-          pub write-25 : placedOk (x .key) (x .signature) (x .privateKey) (placesOf x) ≡ false → writeOutcome x n ≡ 25
-          unfolding writeOutcome writeRows firstRow
-          write-25 h = rw (sizes, le-ltb n (shareLength x) room, coding, segment, h)
+      module _ (coding : codingOk k n ≡ true) where
+        pub rows-24 : segmentFits e segment k m ≡ false → outcome ≡ 24
+        unfolding rowsOf firstRow
+        rows-24 h = rw (sized, le-ltb space (headerSize e + sum sizes) room, coding, h)
 
-          pub write-rest : placedOk (x .key) (x .signature) (x .privateKey) (placesOf x) ≡ true
-              → writeOutcome x n
-              ≡ firstRow
-              (contentRows (x .sequence) (x .required) (x .total) (segmentOf x) (x .dataLength) (x .chain) (x .tree)
-              (x .shareData))
-          unfolding writeOutcome writeRows firstRow
-          write-rest h = rw (sizes, le-ltb n (shareLength x) room, coding, segment, h)
+        module _ (fit : segmentFits e segment k m ≡ true) where
+          pub rows-25 : boundsFit e (packed (headerSize e) sizes) ≡ false → outcome ≡ 25
+          unfolding rowsOf firstRow
+          rows-25 h = rw (sized, le-ltb space (headerSize e + sum sizes) room, coding, fit, h)
+
+          pub rows-rest : boundsFit e (packed (headerSize e) sizes) ≡ true
+              → outcome ≡ firstRow (contentRows e sequence k n segment m chain tree shareData)
+          unfolding rowsOf firstRow
+          rows-rest h = rw (sized, le-ltb space (headerSize e + sum sizes) room, coding, fit, h)
 
 -- ---- sizes and places
-pub share-length : (x : Share)
-    → shareLength x
-    ≡ keyAt
-    + (length (x .key)
-    + (length (x .signature)
-    + (length (x .chain) + (length (x .tree) + (length (x .shareData) + length (x .privateKey))))))
-unfolding shareLength partList sum
-share-length x = omega arith
-
-pub share-joined : (x : Share) → shareLength x ≡ keyAt + length (join (partList x))
+pub share-joined : (x : Share) → shareLength x ≡ headerSize (editionIn x) + length (join (partList x))
 unfolding shareLength
 share-joined x = rw (length-join (partList x))
 
--- The boundaries, each from the one before; the last is the share's end.
-pub places-packed : (x : Share) (bs : List ℕ) → bs ≡ placesOf x
-    → Packed bs (length (x .key)) (length (x .signature)) (length (x .chain)) (length (x .tree)) (length (x .shareData))
-    (length (x .privateKey))
-unfolding placesOf partList packed
-places-packed x bs e =
+seven-parts : (x : Share) → length (map length (partList x)) ≡ 7
+unfolding partList
+seven-parts (sdmf x) = refl
+seven-parts (mdmf x) = refl
+
+-- The last boundary is the share's end.
+pub places-end : (x : Share) → getD (placesOf x) 7 0 ≡ shareLength x
+unfolding placesOf shareLength
+places-end x =
+    ap (λ (i : ℕ). getD (packed (headerSize (editionIn x)) (map length (partList x))) i 0) (sym (seven-parts x))
+    ∙ packed-last (headerSize (editionIn x)) (map length (partList x))
+
+pub places-seven : (h a b c d e f g : ℕ) → Packed h (packed h (a ∷ b ∷ c ∷ d ∷ e ∷ f ∷ g ∷ [])) a b c d e f g
+unfolding packed
+places-seven h a b c d e f g =
     record {
-      signature-at = rw e;
-      chain-at = rw e;
-      tree-at = rw e;
-      share-data-at = rw e;
-      private-key-at = rw e;
-      end-at = rw e;
+      first = refl;
+      second = refl;
+      third = refl;
+      fourth = refl;
+      fifth = refl;
+      sixth = refl;
+      seventh = refl;
+      end = refl;
     }
 
-pub places-end : (x : Share) (bs : List ℕ) → bs ≡ placesOf x → getD bs 6 0 ≡ shareLength x
-places-end x bs e = let p = places-packed x bs e in omega (arith, share-length x)
-
--- Offsets of parts that fit a space are numbers of 64 bits.
-pub far-places : (x : Share) → shareLength x < 18446744073709551616 → FarOffsets (placesOf x)
-unfolding placesOf partList packed
-far-places x h =
-    let l = share-length x in
-    record { privateKey = omega arith; rest = omega arith }
-
 -- ---- the conditions
-tree-facts : (m : ℕ) (tree : List ℕ) → treeOk m tree ≡ true
-    → (length tree ≡ hashSize) ⊎ ((m ≡ 0) × (length tree ≡ 0))
-unfolding treeOk
-tree-facts m tree e = go (eqb (length tree) hashSize) refl e
+placed-packed : (e : Edition) (ns : List ℕ) → placedOk e (packed (headerSize e) ns) ≡ true → EachLeast (leastSizes e) ns
+placed-packed e ns h =
+    let f : getD (packed (headerSize e) ns) 0 0 ≡ headerSize e =
+    ap (λ (l : List ℕ). getD l 0 0) (packed-head (headerSize e) ns) in
+    packed-facts (leastSizes e) ns (headerSize e) (rw f at (placed-rest e (packed (headerSize e) ns) f ∙ h))
+
+packed-placed : (e : Edition) (ns : List ℕ) → EachLeast (leastSizes e) ns → placedOk e (packed (headerSize e) ns) ≡ true
+packed-placed e ns l =
+    let f : getD (packed (headerSize e) ns) 0 0 ≡ headerSize e =
+    ap (λ (l : List ℕ). getD l 0 0) (packed-head (headerSize e) ns) in
+    sym (placed-rest e (packed (headerSize e) ns) f) ∙ rw f (packed-order (leastSizes e) ns (headerSize e) l)
+
+-- Three parts are never empty.
+pub record Filled (x : Share) : Type 0 where
+  pub key : 0 < length (keyIn x)
+  pub signature : 0 < length (signatureIn x)
+  pub private-key : 0 < length (privateKeyIn x)
+
+filled : (x : Share) → EachLeast (leastSizes (editionIn x)) (map length (partList x)) → Filled x
+unfolding partList
+filled (sdmf x) l = record { key = l .0; signature = l .1 .0; private-key = l .1 .1 .1 .1 .1 .0 }
+filled (mdmf x) l = record { key = l .1 .1 .1 .0; signature = l .1 .1 .0; private-key = l .0 }
+
+pub placed-share : (x : Share) → Filled x → placedOk (editionIn x) (placesOf x) ≡ true
+unfolding placesOf partList
+placed-share x f = packed-placed (editionIn x) (map length (partList x)) (least x f)
   where
-    go : (t : Bool) → eqb (length tree) hashSize ≡ t → cond t true (eqb m 0 && eqb (length tree) 0) ≡ true
-        → (length tree ≡ hashSize) ⊎ ((m ≡ 0) × (length tree ≡ 0))
-    go true h k = inl (eqb-true _ _ h)
-    go false h k = let p = both (eqb m 0) (eqb (length tree) 0) k in inr (eqb-true _ _ (p .0), eqb-true _ _ (p .1))
+    none : (n : ℕ) → 0 ≤ n
+    none n = omega arith
 
-tree-true : (m : ℕ) (tree : List ℕ) → (length tree ≡ hashSize) ⊎ ((m ≡ 0) × (length tree ≡ 0)) → treeOk m tree ≡ true
+    least : (x : Share) → Filled x → EachLeast (leastSizes (editionIn x)) (map length (partList x))
+    least (sdmf x) f =
+        (f .key, (f .signature, (none _, (none _, (none _, (f .private-key, (none _, tt)))))))
+    least (mdmf x) f =
+        (f .private-key, (none _, (f .signature, (f .key, (none _, (none _, (none _, tt)))))))
+
+-- Rows 24, 27 and 28, each edition's own.
+segment-facts : (x : Share) → segmentOk (editionIn x) (segmentIn x) (requiredIn x) (lengthIn x) ≡ true → SegmentRight x
+unfolding segmentOk
+segment-facts (sdmf x) h = tt
+segment-facts (mdmf x) h =
+    let p = both (eqb (x .segmentSize % x .required) 0) (not (eqb (x .segmentSize) 0 && ltb 0 (x .dataLength))) h in
+    (eqb-true _ _ (p .0), segment-some true (x .segmentSize) (x .required) (x .dataLength) (rw (p .0) (p .1)) refl)
+
+segment-true : (x : Share) → SegmentRight x → segmentOk (editionIn x) (segmentIn x) (requiredIn x) (lengthIn x) ≡ true
+unfolding segmentOk
+segment-true (sdmf x) h = eq-eqb (segmentIn (sdmf x)) (segmentIn (sdmf x)) refl
+segment-true (mdmf x) h = rw (eq-eqb _ _ (h .0)) (go (eqb (x .segmentSize) 0) refl)
+  where
+    go : (t : Bool) → eqb (x .segmentSize) 0 ≡ t → not (t && ltb 0 (x .dataLength)) ≡ true
+    go true z = sym (segment-none (x .dataLength)) ∙ eq-eqb _ _ (h .1 (eqb-true _ _ z))
+    go false z = refl
+
+tree-facts : (x : Share) → treeOk (editionIn x) (segmentIn x) (lengthIn x) (treeIn x) ≡ true → TreeRight x
 unfolding treeOk
-tree-true m tree (inl h) = rw (eq-eqb _ _ h)
-tree-true m tree (inr h) = rw (h .1, eq-eqb _ _ (h .0))
+tree-facts (mdmf x) h = eqb-true _ _ h
+tree-facts (sdmf x) h = go (eqb (length (x .tree)) hashSize) refl h
+  where
+    go : (t : Bool) → eqb (length (x .tree)) hashSize ≡ t
+        → cond t true (eqb (x .dataLength) 0 && eqb (length (x .tree)) 0) ≡ true
+        → (length (x .tree) ≡ hashSize) ⊎ ((x .dataLength ≡ 0) × (length (x .tree) ≡ 0))
+    go true l k = inl (eqb-true _ _ l)
+    go false l k =
+        let p = both (eqb (x .dataLength) 0) (eqb (length (x .tree)) 0) k in
+        inr (eqb-true _ _ (p .0), eqb-true _ _ (p .1))
 
-pub placed-facts : (key signature privateKey bs : List ℕ) → placedOk key signature privateKey bs ≡ true
-    → (0 < length key) × (0 < length signature) × (0 < length privateKey) × NarrowOffsets bs × FarOffsets bs
-unfolding placedOk
-placed-facts key signature privateKey bs e =
-    let a = both _ _ e in
-    let b = both _ _ (a .1) in
-    let c = both _ _ (b .1) in
-    let o = offset-facts bs (c .1) in
-    (ltb-true _ _ (a .0), ltb-true _ _ (b .0), ltb-true _ _ (c .0), o .0, o .1)
+tree-true : (x : Share) → TreeRight x → treeOk (editionIn x) (segmentIn x) (lengthIn x) (treeIn x) ≡ true
+unfolding treeOk
+tree-true (mdmf x) h = eq-eqb _ _ h
+tree-true (sdmf x) (inl h) = rw (eq-eqb _ _ h)
+tree-true (sdmf x) (inr h) = rw (h .1, eq-eqb _ _ (h .0))
 
-pub writable : (x : Share) (n : ℕ) → writeOutcome x n ≡ 0 → Writable x n
-unfolding writeOutcome writeRows contentRows sizesOk chainOk blockOk
-writable x n z =
+blocks-facts : (x : Share) → blocksOk (editionIn x) (segmentIn x) (requiredIn x) (lengthIn x) (shareDataIn x) ≡ true
+    → BlocksRight x
+unfolding blocksOk
+blocks-facts (mdmf x) h = eqb-true _ _ h
+blocks-facts (sdmf x) h = eqb-true _ _ h
+
+blocks-true : (x : Share) → BlocksRight x
+    → blocksOk (editionIn x) (segmentIn x) (requiredIn x) (lengthIn x) (shareDataIn x) ≡ true
+unfolding blocksOk
+blocks-true (mdmf x) h = eq-eqb _ _ h
+blocks-true (sdmf x) h = eq-eqb _ _ h
+
+-- What holds where no row applies.
+pub record Passed (x : Share) (n : ℕ) : Type 0 where
+  pub sizes : sizesOk (editionIn x) (rootIn x) (ivIn x) ≡ true
+  pub room : shareLength x ≤ n
+  pub coding : codingOk (requiredIn x) (totalIn x) ≡ true
+  pub segment : segmentFits (editionIn x) (segmentIn x) (requiredIn x) (lengthIn x) ≡ true
+  pub placed : boundsFit (editionIn x) (placesOf x) ≡ true
+  pub content :
+      firstRow
+      (contentRows (editionIn x) (sequenceIn x) (requiredIn x) (totalIn x) (segmentIn x) (lengthIn x) (chainIn x)
+      (treeIn x) (shareDataIn x))
+      ≡ 0
+
+pub passed : (x : Share) (n : ℕ) → writeOutcome x n ≡ 0 → Passed x n
+unfolding writeOutcome writeRows rowsOf shareLength placesOf
+passed x n z =
     let a = clear 3 _ _ (omega arith) z in
     let b = clear 7 _ _ (omega arith) (a .1) in
     let c = clear 23 _ _ (omega arith) (b .1) in
     let d = clear 24 _ _ (omega arith) (c .1) in
     let e = clear 25 _ _ (omega arith) (d .1) in
-    let f = clear 26 _ _ (omega arith) (e .1) in
-    let g = clear 27 _ _ (omega arith) (f .1) in
-    let h = clear 28 _ _ (omega arith) (g .1) in
-    let i = clear 29 _ _ (omega arith) (h .1) in
-    let sizes = both _ _ (not-false _ (a .0)) in
-    let coding = coding-facts _ _ (not-false _ (c .0)) in
-    let placed = placed-facts _ _ _ _ (not-false _ (e .0)) in
-    let chain = both _ _ (not-false _ (f .0)) in
-    let nodes = nodes-facts _ _ (chain .1) in
     record {
-      root-size = eqb-true _ _ (sizes .0);
-      iv-size = eqb-true _ _ (sizes .1);
+      sizes = not-false _ (a .0);
       room = ltb-false _ _ (b .0);
-      some-required = coding .0;
-      enough = coding .1;
-      segment-fits = within-64 _ (not-false _ (d .0));
-      some-key = placed .0;
-      some-signature = placed .1;
-      some-private-key = placed .2;
-      offsets = placed .3;
-      far-offsets = placed .4;
-      chain-size = eqb-true _ _ (chain .0);
+      coding = not-false _ (c .0);
+      segment = not-false _ (d .0);
+      placed = not-false _ (e .0);
+      content = e .1;
+    }
+
+pub done : (x : Share) (n : ℕ) → Passed x n → writeOutcome x n ≡ 0
+unfolding writeOutcome writeRows shareLength placesOf
+done x n p =
+    rows-rest (editionIn x) (sequenceIn x) (rootIn x) (ivIn x) (requiredIn x) (totalIn x) (segmentIn x) (lengthIn x)
+    (map length (partList x)) (chainIn x) (treeIn x) (shareDataIn x) n (p .sizes) (p .room) (p .coding) (p .segment)
+    (p .placed)
+    ∙ p .content
+
+pub writable : (x : Share) (n : ℕ) → writeOutcome x n ≡ 0 → Writable x n
+unfolding sizesOk segmentFits boundsFit contentRows chainOk placesOf
+writable x n z =
+    let p = passed x n z in
+    let a = both (eqb (length (rootIn x)) hashSize) (eqb (length (ivIn x)) (ivSize (editionIn x))) (p .sizes) in
+    let k = coding-facts (requiredIn x) (totalIn x) (p .coding) in
+    let s = both _ _ (p .segment) in
+    let b = both (placedOk (editionIn x) (placesOf x)) (offsetsFit (editionIn x) (placesOf x)) (p .placed) in
+    let f = filled x (placed-packed (editionIn x) (map length (partList x)) (b .0)) in
+    let c = clear 26 _ _ (omega arith) (p .content) in
+    let h = both _ _ (not-false _ (c .0)) in
+    let nodes = nodes-facts _ _ (h .1) in
+    let t = clear 27 _ _ (omega arith) (c .1) in
+    let d = clear 28 _ _ (omega arith) (t .1) in
+    let q = clear 29 _ _ (omega arith) (d .1) in
+    record {
+      root-size = eqb-true _ _ (a .0);
+      iv-size = eqb-true _ _ (a .1);
+      room = p .room;
+      some-required = k .0;
+      enough = k .1;
+      segment-fits = within-64 (segmentIn x) (s .0);
+      segment = segment-facts x (s .1);
+      some-key = f .key;
+      some-signature = f .signature;
+      some-private-key = f .private-key;
+      offsets = offset-facts (editionIn x) (placesOf x) (b .1);
+      chain-size = eqb-true _ _ (h .0);
       nodes-below = nodes .0;
       nodes-differ = nodes .1;
-      tree-size = tree-facts _ _ (not-false _ (g .0));
-      block-size = eqb-true _ _ (not-false _ (h .0));
-      not-last = eqb-false _ _ (i .0);
+      tree-size = tree-facts x (not-false _ (t .0));
+      block-size = blocks-facts x (not-false _ (d .0));
+      not-last = eqb-false _ _ (q .0);
     }
 
 pub written : (x : Share) (n : ℕ) → Writable x n → writeOutcome x n ≡ 0
-unfolding writeOutcome writeRows contentRows sizesOk placedOk chainOk blockOk firstRow
+unfolding sizesOk segmentFits boundsFit contentRows chainOk firstRow
 written x n w =
-    rw (
-      eq-eqb _ _ (w .root-size),
-      eq-eqb _ _ (w .iv-size),
-      le-ltb n (shareLength x) (w .room),
-      coding-true _ _ (w .some-required) (w .enough),
-      fits-64 _ (w .segment-fits),
-      lt-ltb _ _ (w .some-key),
-      lt-ltb _ _ (w .some-signature),
-      lt-ltb _ _ (w .some-private-key),
-      offsets-fit (placesOf x) (w .offsets) (w .far-offsets),
-      eq-eqb _ _ (w .chain-size),
-      nodes-true _ _ (w .nodes-below) (w .nodes-differ),
-      tree-true _ _ (w .tree-size),
-      eq-eqb _ _ (w .block-size),
-      ne-eqb _ _ (w .not-last),
-    )
+    let f : Filled x =
+    record { key = w .some-key; signature = w .some-signature; private-key = w .some-private-key } in
+    done x n (record {
+      sizes = rw (eq-eqb _ _ (w .root-size), eq-eqb _ _ (w .iv-size));
+      room = w .room;
+      coding = coding-true _ _ (w .some-required) (w .enough);
+      segment = rw (fits-64 (segmentIn x) (w .segment-fits), segment-true x (w .segment));
+      placed = rw (placed-share x f, offsets-fit (editionIn x) (placesOf x) (w .offsets));
+      content =
+          rw (
+            eq-eqb _ _ (w .chain-size),
+            nodes-true _ _ (w .nodes-below) (w .nodes-differ),
+            tree-true x (w .tree-size),
+            blocks-true x (w .block-size),
+            ne-eqb _ _ (w .not-last),
+          );
+    })
 
--- ---- what is written
--- The parts behind the header are the share.
-pub laid-out : (x : Share) (d bounds : List ℕ) (segment : ℕ) → length (x .root) ≡ hashSize → length (x .iv) ≡ ivSize
-    → segment ≡ segmentOf x → bounds ≡ placesOf x
-    → put keyAt (join (partList x))
-    (put 0
-    (join (numberFields (x .sequence) (x .root) (x .iv) (x .required) (x .total) segment (x .dataLength))
-    ++ join (offsetFields bounds))
-    d)
-    ≡ put 0 (encode x) d
-unfolding encode
-laid-out x d bounds segment hr hs es eb =
-    let a : List ℕ =
-    join (numberFields (x .sequence) (x .root) (x .iv) (x .required) (x .total) (segmentOf x) (x .dataLength)) in
-    let b : List ℕ = join (offsetFields (placesOf x)) in
-    let la : length a ≡ signatureField =
-    length-numbers (x .sequence) (x .root) (x .iv) (x .required) (x .total) (segmentOf x) (x .dataLength) hr hs in
-    let lab : keyAt ≡ 0 + length (a ++ b) = rw length-append (omega (arith, la, length-offsets (placesOf x))) in
-    rw (es, eb)
-    (put-put 0 keyAt (a ++ b) (join (partList x)) d (omega arith) lab
-    ∙ ap (λ (l : List ℕ). put 0 l d) (append-assoc a b (join (partList x))))
-
--- ---- the verdict, the answer, and the space afterwards
-pub judges-refused : (x : Share) (n m : ℕ) (v : Verdict) → v .number ≡ m → writeOutcome x n ≡ m → 0 < m → Judges x n v
-judges-refused x n m v e o h = record { number = e ∙ sym o; accepted = λ z. absurd (omega arith) }
-
+-- ---- the answer, and the space afterwards
 pub answer-refused : (x : Share) (d : List ℕ) (m : ℕ) → m ≡ writeOutcome x (length d) → (m ≡ 0 → ⊥)
     → (_≡_ {A = Written} (record { number = m; length = 0 }) (writtenAnswer x (length d))) × (d ≡ spaceAfter x d)
 unfolding writtenAnswer spaceAfter
@@ -225,3 +290,65 @@ pub answer-done : (x : Share) (d d' : List ℕ) (n : ℕ) → writeOutcome x (le
     → (_≡_ {A = Written} (record { number = 0; length = n }) (writtenAnswer x (length d))) × (d' ≡ spaceAfter x d)
 unfolding writtenAnswer spaceAfter
 answer-done x d d' n z l e = (rw (z, l), rw (z, e))
+
+-- ---- seven sizes
+pub seven-listed : (l : List ℕ) → length l ≡ 7
+    → l ≡ getD l 0 0 ∷ getD l 1 0 ∷ getD l 2 0 ∷ getD l 3 0 ∷ getD l 4 0 ∷ getD l 5 0 ∷ getD l 6 0 ∷ []
+seven-listed (a ∷ b ∷ c ∷ d ∷ e ∷ f ∷ g ∷ []) h = refl
+seven-listed [] h = absurd (omega arith)
+seven-listed (a ∷ []) h = absurd (omega arith)
+seven-listed (a ∷ b ∷ []) h = absurd (omega arith)
+seven-listed (a ∷ b ∷ c ∷ []) h = absurd (omega arith)
+seven-listed (a ∷ b ∷ c ∷ d ∷ []) h = absurd (omega arith)
+seven-listed (a ∷ b ∷ c ∷ d ∷ e ∷ []) h = absurd (omega arith)
+seven-listed (a ∷ b ∷ c ∷ d ∷ e ∷ f ∷ []) h = absurd (omega arith)
+seven-listed (a ∷ b ∷ c ∷ d ∷ e ∷ f ∷ g ∷ i ∷ l) h = absurd (omega arith)
+
+pub sum-seven : (l : List ℕ) → length l ≡ 7
+    → sum l
+    ≡ getD l 0 0
+    + (getD l 1 0 + (getD l 2 0 + (getD l 3 0 + (getD l 4 0 + (getD l 5 0 + (getD l 6 0 + 0))))))
+unfolding sum
+sum-seven l h = ap sum (seven-listed l h)
+
+pub packed-seven : (a : ℕ) (l : List ℕ) → length l ≡ 7
+    → packed a (getD l 0 0 ∷ getD l 1 0 ∷ getD l 2 0 ∷ getD l 3 0 ∷ getD l 4 0 ∷ getD l 5 0 ∷ getD l 6 0 ∷ [])
+    ≡ packed a l
+packed-seven a l h = ap (packed a) (sym (seven-listed l h))
+
+-- ---- the verdict
+module _ (e : Edition) (sequence : ℕ) (root iv : List ℕ) (k n given m : ℕ) (sizes chain tree shareData : List ℕ)
+    (space : ℕ) (v : Verdict) where
+  pub judges-refused : (r : ℕ) → v .number ≡ r
+      → firstRow (rowsOf e sequence root iv k n (segmentFor e given k m) m sizes chain tree shareData space) ≡ r → 0 < r
+      → Judges e sequence root iv k n given m sizes chain tree shareData space v
+  judges-refused r h o p =
+      record { number = h ∙ sym o; segment = λ z. absurd (omega arith); bounds = λ z. absurd (omega arith) }
+
+-- ---- what is written
+-- On 0 a header and the parts have room, and what they are asked for.
+pub layable : (x : Share) (n : ℕ) (bs : List ℕ) → writeOutcome x n ≡ 0 → bs ≡ placesOf x
+    → HeaderFits (editionIn x) (rootIn x) (ivIn x) bs n × (getD bs 7 0 ≤ n)
+unfolding shareLength
+layable x n bs z b =
+    let w = writable x n z in
+    let fit = offsets-fit (editionIn x) (placesOf x) (w .offsets) in (
+      record {
+        root-size = w .root-size;
+        iv-size = w .iv-size;
+        room = omega (arith, w .room);
+        narrow = narrow-facts (editionIn x) bs (rw b fit);
+      },
+      rw b (omega (arith, places-end x, w .room)),
+    )
+
+-- Numbers, offsets and parts are the share.
+pub encoded : (x : Share) (d bs : List ℕ) (segment : ℕ) → segment ≡ segmentIn x → bs ≡ placesOf x
+    → put 0
+    (join
+    (numberFields (editionIn x) (sequenceIn x) (rootIn x) (ivIn x) (requiredIn x) (totalIn x) segment (lengthIn x))
+    ++ (join (offsetFields (editionIn x) bs) ++ join (partList x)))
+    d
+    ≡ put 0 (encode x) d
+unfolding encode
+encoded x d bs segment g b = rw (g, b)

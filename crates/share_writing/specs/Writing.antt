@@ -1,23 +1,27 @@
--- What the share writer answers, and what it leaves in the lent space (docs/RULES.md, S42 to S44). Numbers do not wrap.
-use Prim.Native.Nat.{ℕ}
+-- What the share writers answer, and what they leave in the lent space (docs/RULES.md, S42 to S44, S53, S58). Numbers do
+-- not wrap.
+use Prim.Native.Nat.{ℕ, _+_}
 use mathlib.Core.Bool.{Bool, cond, not, _&&_}
-use mathlib.Core.List.{List, _∷_}
+use mathlib.Core.List.{List, _∷_, map}
 use lib.ListN.{length}
 use lib.Dec.{eqb, ltb}
+use Rattle.octets.specs.Lists.{sum}
 use Rattle.octets.specs.Moves.{put}
 use Rattle.octets.specs.Numbers.{fits}
 use Rattle.octets.specs.Rows.{Row, row, firstRow}
-use Rattle.share_format.specs.Header.{hashSize, ivSize, numberSize, offsetsFit}
-use Rattle.share_format.specs.Parts.{Share, segmentOf, placesOf, shareLength, encode}
-use Rattle.share_format.specs.Rows.{codingOk, contentRows}
+use Rattle.share_format.specs.Bounds.{packed}
+use Rattle.share_format.specs.Header.{Edition, hashSize, ivSize, numberSize, headerSize, offsetsFit}
+use Rattle.share_format.specs.Parts.{Share, sdmf, mdmf, editionIn, sequenceIn, rootIn, ivIn, requiredIn, totalIn}
+use Rattle.share_format.specs.Parts.{segmentIn, lengthIn, chainIn, treeIn, shareDataIn, partList, shareLength, encode}
+use Rattle.share_format.specs.Rows.{codingOk, segmentOk, placedOk, contentRows}
 use Rattle.share_writing.specs.declared.Written.{Written}
 
--- The share that the writer's arguments name (S40).
-abbrev pub shareWith :
+-- The share that the arguments of the SDMF writer name (S40).
+abbrev pub sdmfWith :
     (sequence : ℕ) (root iv : List ℕ) (required total dataLength : ℕ)
     (key signature chain tree shareData privateKey : List ℕ) → Share
-shareWith sequence root iv required total dataLength key signature chain tree shareData privateKey =
-    record {
+sdmfWith sequence root iv required total dataLength key signature chain tree shareData privateKey =
+    sdmf (record {
       sequence = sequence;
       root = root;
       iv = iv;
@@ -30,27 +34,59 @@ shareWith sequence root iv required total dataLength key signature chain tree sh
       tree = tree;
       shareData = shareData;
       privateKey = privateKey;
-    }
+    })
+
+-- Those of the MDMF writer: no IV, but the segment size and the spare bytes (S53).
+abbrev pub mdmfWith :
+    (sequence : ℕ) (root : List ℕ) (required total segmentSize dataLength : ℕ)
+    (privateKey chain signature key spare shareData tree : List ℕ) → Share
+mdmfWith sequence root required total segmentSize dataLength privateKey chain signature key spare shareData tree =
+    mdmf (record {
+      sequence = sequence;
+      root = root;
+      required = required;
+      total = total;
+      segmentSize = segmentSize;
+      dataLength = dataLength;
+      privateKey = privateKey;
+      chain = chain;
+      signature = signature;
+      key = key;
+      spare = spare;
+      shareData = shareData;
+      tree = tree;
+    })
 
 -- Row 3: R and IV have their sizes.
-unfoldable pub sizesOk : List ℕ → List ℕ → Bool
-sizesOk root iv = eqb (length root) hashSize && eqb (length iv) ivSize
+unfoldable pub sizesOk : Edition → List ℕ → List ℕ → Bool
+sizesOk e root iv = eqb (length root) hashSize && eqb (length iv) (ivSize e)
 
--- Row 25: key, signature and private key are not empty, and each offset fits its field.
-unfoldable pub placedOk : (key signature privateKey bounds : List ℕ) → Bool
-placedOk key signature privateKey bounds =
-    ltb 0 (length key) && (ltb 0 (length signature) && (ltb 0 (length privateKey) && offsetsFit bounds))
+-- Row 24: as the checker's, and the segment size fits its field.
+unfoldable pub segmentFits : Edition → (segment k dataLength : ℕ) → Bool
+segmentFits e segment k dataLength = fits numberSize segment && segmentOk e segment k dataLength
 
--- The rows for a share and a space of n bytes, in rising order; 26 to 29 are the checker's (S42).
+-- Row 25: as the checker's, of the boundaries that the parts get, and each offset fits its field.
+unfoldable pub boundsFit : Edition → List ℕ → Bool
+boundsFit e bounds = placedOk e bounds && offsetsFit e bounds
+
+-- The rows of numbers, the sizes of the parts, the three parts that they look into, and a space of so many bytes, in
+-- rising order; 26 to 29 are the checker's (S42, S58).
+unfoldable pub rowsOf :
+    Edition → (sequence : ℕ) (root iv : List ℕ) (k n segment dataLength : ℕ) (sizes chain tree shareData : List ℕ)
+    (space : ℕ) → List Row
+rowsOf e sequence root iv k n segment dataLength sizes chain tree shareData space =
+    row 3 (not (sizesOk e root iv))
+    ∷ row 7 (ltb space (headerSize e + sum sizes))
+    ∷ row 23 (not (codingOk k n))
+    ∷ row 24 (not (segmentFits e segment k dataLength))
+    ∷ row 25 (not (boundsFit e (packed (headerSize e) sizes)))
+    ∷ contentRows e sequence k n segment dataLength chain tree shareData
+
+-- Those of a share (S42, S58).
 unfoldable pub writeRows : Share → ℕ → List Row
-writeRows x n =
-    row 3 (not (sizesOk (x .root) (x .iv)))
-    ∷ row 7 (ltb n (shareLength x))
-    ∷ row 23 (not (codingOk (x .required) (x .total)))
-    ∷ row 24 (not (fits numberSize (segmentOf x)))
-    ∷ row 25 (not (placedOk (x .key) (x .signature) (x .privateKey) (placesOf x)))
-    ∷ contentRows (x .sequence) (x .required) (x .total) (segmentOf x) (x .dataLength) (x .chain) (x .tree)
-    (x .shareData)
+writeRows x space =
+    rowsOf (editionIn x) (sequenceIn x) (rootIn x) (ivIn x) (requiredIn x) (totalIn x) (segmentIn x) (lengthIn x)
+    (map length (partList x)) (chainIn x) (treeIn x) (shareDataIn x) space
 
 -- The lowest number that applies (S42).
 unfoldable pub writeOutcome : Share → ℕ → ℕ

@@ -2,3 +2,4 @@
 pub mod ShareLaws
 pub mod Demand1
 pub mod RoundTrip
+pub mod EdgeTable

@@ -1,3 +1,5 @@
--- The check of the SDMF share, and what holds of check and writer together (docs/RULES.md, S30 to S40, D8).
+-- The check of a share, SDMF or MDMF, and what holds of check and writers together (docs/RULES.md, S30 to S40, S52,
+-- D8).
 pub mod Share
 pub mod Claims
+pub mod Edges

@@ -1,2 +1,2 @@
-// The SDMF share checker, on bare bytes or on a container's data.
+// The share checker, for SDMF and MDMF, on bare bytes or on a container's data.
 pub mod share;

@@ -1,45 +1,66 @@
-// The checker: outcomes 0 and 21 to 29, and the six parts as parts of the caller's slice.
+// The checker: outcomes 0 and 21 to 29, the edition, and the parts as parts of the caller's slice.
+use share_format::bounds;
 use share_format::header;
 use share_format::rows;
 ghost use mathlib.Core.Path.{_≡_};
-ghost use Prim.Native.Nat.{_+_, _<_};
-ghost use lib.ListN.{length, getD};
-ghost use Rattle.container.specs.Data.{beyond};
-ghost use Rattle.share_format.specs.Bounds.{partOf};
+ghost use Prim.Native.Nat.{_+_, _≤_, _<_};
+ghost use lib.Dec.{eqb};
+ghost use lib.ListN.{length};
+ghost use Rattle.container.specs.Data.{beyond, dataLent};
+ghost use Rattle.share_format.specs.Facts.{PartsInside};
+ghost use Rattle.share_format.specs.Header.{byEdition, versionOf, editionOf, headerSize, boundsOf};
+ghost use Rattle.share_format.specs.Parts.{keyPart, signaturePart, chainPart, treePart, shareDataPart};
+ghost use Rattle.share_format.specs.Parts.{privateKeyPart, sparePart};
 ghost use Rattle.shares.specs.Share.{refused, boundsAt, checkedAt, checkedOf, sharePart, partAt};
 ghost use Rattle.shares.specs.Share.{checkedContainer, containerPart, containerPartAt};
-ghost use Rattle.share_format.specs.Facts.{OrderedOffsets, PartInside};
 ghost use Rattle.octets.specs.Facts.{Fits64};
 
-// The outcome's number, and the boundaries of the six parts (all 0 on a refusal).
+// SDMF and MDMF, by their version bytes.
+pub const SDMF: u32 = 0;
+
+pub const MDMF: u32 = 1;
+
+// The outcome's number, the edition, and the boundaries of the parts (all 0 on a refusal). SDMF has six parts, so that its
+// last two boundaries are the same.
 #[repr(C)]
 pub struct Checked {
     pub number: u32,
-    pub bounds: [u64; 7],
+    pub edition: u32,
+    pub bounds: [u64; 8],
 }
 
-fn refused(number: u32) -> Checked
-    ensures { λ r. ⌜ r ≡ refused number ⌝ }
+fn edition(mdmf: bool) -> u32
+    ensures { λ r. ⌜ r ≡ versionOf mdmf ⌝ }
+{
+    if mdmf { MDMF } else { SDMF }
+}
+
+fn refused(mdmf: bool, number: u32) -> Checked
+    ensures { λ r. ⌜ r ≡ refused mdmf number ⌝ }
 {
     Checked {
         number,
-        bounds: [0; 7],
+        edition: edition(mdmf),
+        bounds: [0; 8],
     }
 }
 
 // The boundaries of a share that begins at byte `base` of the caller's slice.
-fn bounds_at(s: &[u8], base: u64) -> [u64; 7]
-    requires { ⌜ OrderedOffsets (now s) × Fits64 (base + length (now s)) ⌝ }
+fn bounds_at(s: &[u8], mdmf: bool, base: u64) -> [u64; 8]
+    requires { ⌜ (mdmf ≡ editionOf (now s)) × (headerSize mdmf ≤ length (now s))
+        × PartsInside (boundsOf mdmf (now s)) (length (now s)) × Fits64 (base + length (now s)) ⌝ }
     ensures { λ r. ⌜ r ≡ boundsAt base (now (s .entry)) ⌝ }
 {
+    let bounds = header::bounds(s, mdmf);
     [
-        base + header::KEY_AT,
-        base + header::signature_at(s),
-        base + header::chain_at(s),
-        base + header::tree_at(s),
-        base + header::share_data_at(s),
-        base + header::private_key_at(s),
-        base + header::end_at(s),
+        base + bounds[0],
+        base + bounds[1],
+        base + bounds[2],
+        base + bounds[3],
+        base + bounds[4],
+        base + bounds[5],
+        base + bounds[6],
+        base + bounds[7],
     ]
 }
 
@@ -47,13 +68,15 @@ fn checked_at(s: &[u8], base: u64) -> Checked
     requires { ⌜ Fits64 (base + length (now s)) ⌝ }
     ensures { λ r. ⌜ r ≡ checkedAt base (now (s .entry)) ⌝ }
 {
+    let mdmf = header::is_mdmf(s);
     let number = rows::outcome(s);
     if number != 0 {
-        return refused(number);
+        return refused(mdmf, number);
     }
     Checked {
         number: 0,
-        bounds: bounds_at(s, base),
+        edition: edition(mdmf),
+        bounds: bounds_at(s, mdmf, base),
     }
 }
 
@@ -69,126 +92,165 @@ pub fn check_container(c: &[u8]) -> Checked
 {
     let lent = container::data::find_data(c);
     if lent.number != 0 {
-        return refused(lent.number);
+        return refused(false, lent.number);
     }
     let a = lent.from;
     let e = lent.to;
     checked_at(&c[a..e], a as u64)
 }
 
-// Part i, from boundary i to boundary i + 1.
-fn part_of(s: &[u8], bounds: [u64; 7], i: usize) -> &[u8]
-    requires { ⌜ (i < 6) × PartInside bounds (length (now s)) i ⌝ }
-    ensures bytes { λ r. ⌜ now r ≡ partOf i bounds (now (s .entry)) ⌝ }
-    ensures place { λ r. ⌜ r .ptr ≡ beyond ((s .entry) .ptr) (getD bounds i 0) ⌝ }
+// The number of a part, by its number in each edition.
+fn part_number(edition: u32, in_sdmf: usize, in_mdmf: usize) -> usize
+    ensures { λ r. ⌜ r ≡ byEdition (eqb edition 1) in_sdmf in_mdmf ⌝ }
 {
-    let a = bounds[i] as usize;
-    let e = bounds[i + 1] as usize;
-    &s[a..e]
+    if edition == MDMF { in_mdmf } else { in_sdmf }
 }
 
-fn part(s: &[u8], i: usize) -> &[u8]
-    requires { ⌜ i < 6 ⌝ }
-    ensures bytes { λ r. ⌜ now r ≡ sharePart i (now (s .entry)) ⌝ }
-    ensures place { λ r. ⌜ r .ptr ≡ beyond ((s .entry) .ptr) (partAt i (now (s .entry))) ⌝ }
+// A part, by its number in each edition.
+fn part(s: &[u8], in_sdmf: usize, in_mdmf: usize) -> &[u8]
+    requires { ⌜ (in_sdmf < 7) × (in_mdmf < 7) ⌝ }
+    ensures bytes { λ r. ⌜ now r
+        ≡ sharePart (byEdition (editionOf (now (s .entry))) in_sdmf in_mdmf) (now (s .entry)) ⌝ }
+    ensures place { λ r. ⌜ r .ptr
+        ≡ beyond ((s .entry) .ptr)
+        (partAt (byEdition (editionOf (now (s .entry))) in_sdmf in_mdmf) (now (s .entry))) ⌝ }
 {
     let checked = check(s);
     let bounds = checked.bounds;
-    part_of(s, bounds, i)
+    bounds::part(s, bounds, part_number(checked.edition, in_sdmf, in_mdmf))
 }
 
-// The six parts of a share, each that very part of the slice; on a refusal each is empty, at the slice's start.
+// The parts of a share, each that very part of the slice; on a refusal each is empty, at the slice's start. SDMF has no
+// spare bytes, so that part is empty.
 pub fn key(s: &[u8]) -> &[u8]
-    ensures bytes { λ r. ⌜ now r ≡ sharePart 0 (now (s .entry)) ⌝ }
-    ensures place { λ r. ⌜ r .ptr ≡ beyond ((s .entry) .ptr) (partAt 0 (now (s .entry))) ⌝ }
+    ensures bytes { λ r. ⌜ now r ≡ sharePart (keyPart (editionOf (now (s .entry)))) (now (s .entry)) ⌝ }
+    ensures place { λ r. ⌜ r .ptr
+        ≡ beyond ((s .entry) .ptr) (partAt (keyPart (editionOf (now (s .entry)))) (now (s .entry))) ⌝ }
 {
-    part(s, 0)
+    part(s, 0, 3)
 }
 
 pub fn signature(s: &[u8]) -> &[u8]
-    ensures bytes { λ r. ⌜ now r ≡ sharePart 1 (now (s .entry)) ⌝ }
-    ensures place { λ r. ⌜ r .ptr ≡ beyond ((s .entry) .ptr) (partAt 1 (now (s .entry))) ⌝ }
+    ensures bytes { λ r. ⌜ now r ≡ sharePart (signaturePart (editionOf (now (s .entry)))) (now (s .entry)) ⌝ }
+    ensures place { λ r. ⌜ r .ptr
+        ≡ beyond ((s .entry) .ptr) (partAt (signaturePart (editionOf (now (s .entry)))) (now (s .entry))) ⌝ }
 {
-    part(s, 1)
+    part(s, 1, 2)
 }
 
 pub fn chain(s: &[u8]) -> &[u8]
-    ensures bytes { λ r. ⌜ now r ≡ sharePart 2 (now (s .entry)) ⌝ }
-    ensures place { λ r. ⌜ r .ptr ≡ beyond ((s .entry) .ptr) (partAt 2 (now (s .entry))) ⌝ }
+    ensures bytes { λ r. ⌜ now r ≡ sharePart (chainPart (editionOf (now (s .entry)))) (now (s .entry)) ⌝ }
+    ensures place { λ r. ⌜ r .ptr
+        ≡ beyond ((s .entry) .ptr) (partAt (chainPart (editionOf (now (s .entry)))) (now (s .entry))) ⌝ }
 {
-    part(s, 2)
+    part(s, 2, 1)
 }
 
 pub fn tree(s: &[u8]) -> &[u8]
-    ensures bytes { λ r. ⌜ now r ≡ sharePart 3 (now (s .entry)) ⌝ }
-    ensures place { λ r. ⌜ r .ptr ≡ beyond ((s .entry) .ptr) (partAt 3 (now (s .entry))) ⌝ }
+    ensures bytes { λ r. ⌜ now r ≡ sharePart (treePart (editionOf (now (s .entry)))) (now (s .entry)) ⌝ }
+    ensures place { λ r. ⌜ r .ptr
+        ≡ beyond ((s .entry) .ptr) (partAt (treePart (editionOf (now (s .entry)))) (now (s .entry))) ⌝ }
 {
-    part(s, 3)
+    part(s, 3, 6)
 }
 
 pub fn share_data(s: &[u8]) -> &[u8]
-    ensures bytes { λ r. ⌜ now r ≡ sharePart 4 (now (s .entry)) ⌝ }
-    ensures place { λ r. ⌜ r .ptr ≡ beyond ((s .entry) .ptr) (partAt 4 (now (s .entry))) ⌝ }
+    ensures bytes { λ r. ⌜ now r ≡ sharePart (shareDataPart (editionOf (now (s .entry)))) (now (s .entry)) ⌝ }
+    ensures place { λ r. ⌜ r .ptr
+        ≡ beyond ((s .entry) .ptr) (partAt (shareDataPart (editionOf (now (s .entry)))) (now (s .entry))) ⌝ }
 {
-    part(s, 4)
+    part(s, 4, 5)
 }
 
 pub fn private_key(s: &[u8]) -> &[u8]
-    ensures bytes { λ r. ⌜ now r ≡ sharePart 5 (now (s .entry)) ⌝ }
-    ensures place { λ r. ⌜ r .ptr ≡ beyond ((s .entry) .ptr) (partAt 5 (now (s .entry))) ⌝ }
+    ensures bytes { λ r. ⌜ now r ≡ sharePart (privateKeyPart (editionOf (now (s .entry)))) (now (s .entry)) ⌝ }
+    ensures place { λ r. ⌜ r .ptr
+        ≡ beyond ((s .entry) .ptr) (partAt (privateKeyPart (editionOf (now (s .entry)))) (now (s .entry))) ⌝ }
 {
-    part(s, 5)
+    part(s, 5, 0)
 }
 
-fn container_part(c: &[u8], i: usize) -> &[u8]
-    requires { ⌜ i < 6 ⌝ }
-    ensures bytes { λ r. ⌜ now r ≡ containerPart i (now (c .entry)) ⌝ }
-    ensures place { λ r. ⌜ r .ptr ≡ beyond ((c .entry) .ptr) (containerPartAt i (now (c .entry))) ⌝ }
+pub fn spare(s: &[u8]) -> &[u8]
+    ensures bytes { λ r. ⌜ now r ≡ sharePart (sparePart (editionOf (now (s .entry)))) (now (s .entry)) ⌝ }
+    ensures place { λ r. ⌜ r .ptr
+        ≡ beyond ((s .entry) .ptr) (partAt (sparePart (editionOf (now (s .entry)))) (now (s .entry))) ⌝ }
+{
+    part(s, 6, 4)
+}
+
+fn container_part(c: &[u8], in_sdmf: usize, in_mdmf: usize) -> &[u8]
+    requires { ⌜ (in_sdmf < 7) × (in_mdmf < 7) ⌝ }
+    ensures bytes { λ r. ⌜ now r
+        ≡ containerPart (byEdition (editionOf (dataLent (now (c .entry)))) in_sdmf in_mdmf) (now (c .entry)) ⌝ }
+    ensures place { λ r. ⌜ r .ptr
+        ≡ beyond ((c .entry) .ptr)
+        (containerPartAt (byEdition (editionOf (dataLent (now (c .entry)))) in_sdmf in_mdmf) (now (c .entry))) ⌝ }
 {
     let checked = check_container(c);
     let bounds = checked.bounds;
-    part_of(c, bounds, i)
+    bounds::part(c, bounds, part_number(checked.edition, in_sdmf, in_mdmf))
 }
 
 // The same of the share in a container, as parts of the container's slice.
 pub fn container_key(c: &[u8]) -> &[u8]
-    ensures bytes { λ r. ⌜ now r ≡ containerPart 0 (now (c .entry)) ⌝ }
-    ensures place { λ r. ⌜ r .ptr ≡ beyond ((c .entry) .ptr) (containerPartAt 0 (now (c .entry))) ⌝ }
+    ensures bytes { λ r. ⌜ now r ≡ containerPart (keyPart (editionOf (dataLent (now (c .entry))))) (now (c .entry)) ⌝ }
+    ensures place { λ r. ⌜ r .ptr
+        ≡ beyond ((c .entry) .ptr)
+        (containerPartAt (keyPart (editionOf (dataLent (now (c .entry))))) (now (c .entry))) ⌝ }
 {
-    container_part(c, 0)
+    container_part(c, 0, 3)
 }
 
 pub fn container_signature(c: &[u8]) -> &[u8]
-    ensures bytes { λ r. ⌜ now r ≡ containerPart 1 (now (c .entry)) ⌝ }
-    ensures place { λ r. ⌜ r .ptr ≡ beyond ((c .entry) .ptr) (containerPartAt 1 (now (c .entry))) ⌝ }
+    ensures bytes { λ r. ⌜ now r ≡ containerPart (signaturePart (editionOf (dataLent (now (c .entry))))) (now (c .entry)) ⌝ }
+    ensures place { λ r. ⌜ r .ptr
+        ≡ beyond ((c .entry) .ptr)
+        (containerPartAt (signaturePart (editionOf (dataLent (now (c .entry))))) (now (c .entry))) ⌝ }
 {
-    container_part(c, 1)
+    container_part(c, 1, 2)
 }
 
 pub fn container_chain(c: &[u8]) -> &[u8]
-    ensures bytes { λ r. ⌜ now r ≡ containerPart 2 (now (c .entry)) ⌝ }
-    ensures place { λ r. ⌜ r .ptr ≡ beyond ((c .entry) .ptr) (containerPartAt 2 (now (c .entry))) ⌝ }
+    ensures bytes { λ r. ⌜ now r ≡ containerPart (chainPart (editionOf (dataLent (now (c .entry))))) (now (c .entry)) ⌝ }
+    ensures place { λ r. ⌜ r .ptr
+        ≡ beyond ((c .entry) .ptr)
+        (containerPartAt (chainPart (editionOf (dataLent (now (c .entry))))) (now (c .entry))) ⌝ }
 {
-    container_part(c, 2)
+    container_part(c, 2, 1)
 }
 
 pub fn container_tree(c: &[u8]) -> &[u8]
-    ensures bytes { λ r. ⌜ now r ≡ containerPart 3 (now (c .entry)) ⌝ }
-    ensures place { λ r. ⌜ r .ptr ≡ beyond ((c .entry) .ptr) (containerPartAt 3 (now (c .entry))) ⌝ }
+    ensures bytes { λ r. ⌜ now r ≡ containerPart (treePart (editionOf (dataLent (now (c .entry))))) (now (c .entry)) ⌝ }
+    ensures place { λ r. ⌜ r .ptr
+        ≡ beyond ((c .entry) .ptr)
+        (containerPartAt (treePart (editionOf (dataLent (now (c .entry))))) (now (c .entry))) ⌝ }
 {
-    container_part(c, 3)
+    container_part(c, 3, 6)
 }
 
 pub fn container_share_data(c: &[u8]) -> &[u8]
-    ensures bytes { λ r. ⌜ now r ≡ containerPart 4 (now (c .entry)) ⌝ }
-    ensures place { λ r. ⌜ r .ptr ≡ beyond ((c .entry) .ptr) (containerPartAt 4 (now (c .entry))) ⌝ }
+    ensures bytes { λ r. ⌜ now r ≡ containerPart (shareDataPart (editionOf (dataLent (now (c .entry))))) (now (c .entry)) ⌝ }
+    ensures place { λ r. ⌜ r .ptr
+        ≡ beyond ((c .entry) .ptr)
+        (containerPartAt (shareDataPart (editionOf (dataLent (now (c .entry))))) (now (c .entry))) ⌝ }
 {
-    container_part(c, 4)
+    container_part(c, 4, 5)
 }
 
 pub fn container_private_key(c: &[u8]) -> &[u8]
-    ensures bytes { λ r. ⌜ now r ≡ containerPart 5 (now (c .entry)) ⌝ }
-    ensures place { λ r. ⌜ r .ptr ≡ beyond ((c .entry) .ptr) (containerPartAt 5 (now (c .entry))) ⌝ }
+    ensures bytes { λ r. ⌜ now r ≡ containerPart (privateKeyPart (editionOf (dataLent (now (c .entry))))) (now (c .entry)) ⌝ }
+    ensures place { λ r. ⌜ r .ptr
+        ≡ beyond ((c .entry) .ptr)
+        (containerPartAt (privateKeyPart (editionOf (dataLent (now (c .entry))))) (now (c .entry))) ⌝ }
 {
-    container_part(c, 5)
+    container_part(c, 5, 0)
+}
+
+pub fn container_spare(c: &[u8]) -> &[u8]
+    ensures bytes { λ r. ⌜ now r ≡ containerPart (sparePart (editionOf (dataLent (now (c .entry))))) (now (c .entry)) ⌝ }
+    ensures place { λ r. ⌜ r .ptr
+        ≡ beyond ((c .entry) .ptr)
+        (containerPartAt (sparePart (editionOf (dataLent (now (c .entry))))) (now (c .entry))) ⌝ }
+{
+    container_part(c, 6, 4)
 }

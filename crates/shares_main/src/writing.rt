@@ -47,7 +47,7 @@ fn write(
     let private_key = [25u8; 1216];
     let mut chain = [0u8; 136];
     fill_chain(&mut chain, node);
-    share_writing::write_share(
+    share_writing::write_sdmf(
         sequence,
         root,
         &iv,
@@ -104,7 +104,7 @@ fn again(s: &[u8], d: &mut [u8]) -> Written {
             length: 0,
         };
     }
-    share_writing::write_share(
+    share_writing::write_sdmf(
         number_at(s, 1),
         &s[9..41],
         &s[41..57],

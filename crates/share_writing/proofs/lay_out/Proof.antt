@@ -1,51 +1,54 @@
--- The header and, behind it, the parts, are the share.
-use mathlib.Core.Path.{_∙_}
-use Rattle.share_format.specs.Parts.{Share, partList}
-use Rattle.share_writing.specs.Writing.{shareWith}
-use Rattle.share_writing.specs.Claims.{Writable}
-use Rattle.share_writing.proofs.WritingLaws.{share-length, writable, places-packed, places-end, laid-out}
-use lib.ListN.{length}
+-- The parts stand behind the header.
+use mathlib.Core.Path.{_≡_, ap, _∙_}
+use mathlib.Core.List.{List, [], _∷_, _++_, append-assoc}
+use Prim.Native.Nat.{ℕ, _+_}
 use native.Mathlib.Omega.{arith}
+use lib.ListN.{length, getD, length-append}
+use Rattle.octets.specs.Moves.{put}
+use Rattle.octets.specs.Strings.{join}
+use Rattle.octets.proofs.MoveLaws.{put-put}
+use Rattle.share_format.specs.Header.{numberFields, offsetFields}
+use Rattle.share_format.proofs.HeaderLaws.{length-numbers, length-offsets}
 use borrow.Author.Needs.{needs}
 use Rattle.share_writing.proofs.lay_out.Statement.{statement}
 use Rattle.share_writing.proofs.lay_out.Tie as tie
-
--- The share that the arguments name, and that nothing refuses it.
-abbrev given : tie.Start → Share
-given c =
-    let a = c .args in
-    shareWith (a .sequence) (a .root .now) (a .iv .now) (a .required) (a .total) (a .data-length) (a .key .now)
-    (a .signature .now) (a .chain .now) (a .tree .now) (a .share-data .now) (a .private-key .now)
-
-granted : (c : tie.Start) → Writable (given c) (length (c .args .d .now))
-granted c = writable (given c) _ (c .pre .done)
+use Rattle.share_writing.proofs.lay_out.Reads as reads
+use Rattle.share_writing.proofs.lay_out.Lts as lts
+use Rattle.share_format.proofs.header.put_header.Reads as put-header-reads
+use Rattle.share_writing.proofs.put_parts.Reads as put-parts-reads
 
 put-header-requires : tie.Need-put-header-requires
-put-header-requires c κs =
-    let s = c .before .before .before .before .before .before .before .before .before .before in
-    let w = granted s in
-    (omega (arith, w .room, share-length (given s)), w .root-size, w .iv-size, rw (s .pre .bounds-are) (w .offsets))
+put-header-requires c κs = search needs
 
 put-parts-requires : tie.Need-put-parts-requires
-put-parts-requires c κs =
-    let h = c .before .before .before in
-    let s = h .before .before .before .before .before .before .before .before .before .before .before in
-    let e = s .pre .bounds-are in
-    (places-packed (given s) _ e, omega (arith, places-end (given s) _ e, granted s .room))
+put-parts-requires c κs = search needs
 
 same-length : tie.Need-same-length
 same-length c = search needs
 
 returns : tie.Need-returns
-unfolding partList
 returns c =
-    let t = c .before .before in
-    let h = t .before .before .before .before in
-    let s = h .before .before .before .before .before .before .before .before .before .before .before in
-    let w = granted s in
-    t .put-parts .ensures
+    let p = c .before .before in
+    let h = p .before .before .before .before in
+    let s = h .before .before .before .before .before .before .before .before .before .before .before .before in
+    let a = s .args in
+    let f = s .pre .0 in
+    let x : List ℕ =
+    join (numberFields (a .mdmf) (a .sequence) (a .root .now) (a .iv .now) (a .required) (a .total) (a .segment)
+    (a .data-length)) in
+    let y : List ℕ = join (offsetFields (a .mdmf) (a .bounds)) in
+    let z : List ℕ =
+    join (a .first .now ∷ a .second .now ∷ a .third .now ∷ a .fourth .now ∷ a .fifth .now ∷ a .sixth .now
+    ∷ a .seventh .now ∷ []) in
+    let lx =
+    length-numbers (a .mdmf) (a .sequence) (a .root .now) (a .iv .now) (a .required) (a .total) (a .segment)
+    (a .data-length) (f .root-size) (f .iv-size) in
+    let l : getD (a .bounds) 0 0 ≡ 0 + length (x ++ y) =
+    rw length-append (omega (arith, lx, length-offsets (a .mdmf) (a .bounds), s .pre .1 .first)) in
+    p .put-parts .ensures
     ∙ rw (h .put-header .ensures)
-    (laid-out (given s) (s .args .d .now) _ _ (w .root-size) (w .iv-size) (s .pre .segment-is) (s .pre .bounds-are))
+    (put-put 0 (getD (a .bounds) 0 0) (x ++ y) z (a .d .now) (omega arith) l
+    ∙ ap (λ (b : List ℕ). put 0 b (a .d .now)) (append-assoc x y z))
 
 pub lay-out-spec : {M : Type 1} → statement M
 lay-out-spec = tie.close (tie.spec put-header-requires put-parts-requires same-length returns)

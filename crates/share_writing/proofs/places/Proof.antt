@@ -1,40 +1,75 @@
--- The boundaries, one after the other.
-use mathlib.Core.Path.{refl}
+-- Seven sums, none beyond the last.
+use native.Mathlib.Omega.{arith}
 use Rattle.share_format.specs.Bounds.{packed}
+use Rattle.share_writing.proofs.WritingLaws.{sum-seven, packed-seven}
 use borrow.Author.Needs.{needs}
 use Rattle.share_writing.proofs.places.Statement.{statement}
 use Rattle.share_writing.proofs.places.Tie as tie
+use Rattle.share_writing.proofs.places.Reads as reads
+use Rattle.share_writing.proofs.places.Lts as lts
 
-add-signature-at : tie.Need-add-signature-at
-add-signature-at c = search needs
+array-read-second : tie.Need-array-read-second
+array-read-second c = search needs
 
-add-chain-at : tie.Need-add-chain-at
-add-chain-at c = search needs
+add-second : tie.Need-add-second
+add-second c = omega (arith, sum-seven (c .args .t2) (c .pre .0))
 
-add-tree-at : tie.Need-add-tree-at
-add-tree-at c = search needs
+array-read-third : tie.Need-array-read-third
+array-read-third c = search needs
 
-add-share-data-at : tie.Need-add-share-data-at
-add-share-data-at c = search needs
+add-third : tie.Need-add-third
+add-third c = omega (arith, sum-seven (c .args .t2) (c .pre .0))
 
-add-private-key-at : tie.Need-add-private-key-at
-add-private-key-at c = search needs
+array-read-fourth : tie.Need-array-read-fourth
+array-read-fourth c = search needs
+
+add-fourth : tie.Need-add-fourth
+add-fourth c = omega (arith, sum-seven (c .args .t2) (c .pre .0))
+
+array-read-fifth : tie.Need-array-read-fifth
+array-read-fifth c = search needs
+
+add-fifth : tie.Need-add-fifth
+add-fifth c = omega (arith, sum-seven (c .args .t2) (c .pre .0))
+
+array-read-sixth : tie.Need-array-read-sixth
+array-read-sixth c = search needs
+
+add-sixth : tie.Need-add-sixth
+add-sixth c = omega (arith, sum-seven (c .args .t2) (c .pre .0))
+
+array-read-seventh : tie.Need-array-read-seventh
+array-read-seventh c = search needs
+
+add-seventh : tie.Need-add-seventh
+add-seventh c = omega (arith, sum-seven (c .args .t2) (c .pre .0))
+
+array-read-end : tie.Need-array-read-end
+array-read-end c = search needs
 
 add-end : tie.Need-add-end
-add-end c = search needs
+add-end c = omega (arith, sum-seven (c .args .t2) (c .pre .0))
 
 returns : tie.Need-returns
 unfolding packed
-returns c = refl
+returns c = packed-seven (c .args .header) (c .args .t2) (c .pre .0)
 
 pub places-spec : {M : Type 1} → statement M
 places-spec =
     tie.close
     (tie.spec
-    add-signature-at
-    add-chain-at
-    add-tree-at
-    add-share-data-at
-    add-private-key-at
+    array-read-second
+    add-second
+    array-read-third
+    add-third
+    array-read-fourth
+    add-fourth
+    array-read-fifth
+    add-fifth
+    array-read-sixth
+    add-sixth
+    array-read-seventh
+    add-seventh
+    array-read-end
     add-end
     returns)

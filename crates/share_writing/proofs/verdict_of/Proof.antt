@@ -1,59 +1,79 @@
--- Each answer is the row whose test holds once those before it are known not to.
+-- Each refusal is the row whose test holds once those before it are known not to.
 use mathlib.Core.Path.{_≡_, sym, _∙_}
 use mathlib.Core.Bool.{true}
-use Prim.Native.Nat.{_≤_}
-use borrow.Author.Tests.{eq-eqb, ne-eqb, leb-true, leb-false, not-true, not-false}
-use Rattle.octets.specs.Numbers.{fits}
-use Rattle.share_format.specs.Header.{numberSize}
-use Rattle.share_format.specs.Parts.{Share, partList, segmentOf, placesOf, shareLength}
-use Rattle.share_format.specs.Rows.{codingOk}
-use Rattle.share_format.proofs.RowLaws.{coding-facts}
-use Rattle.share_writing.specs.Writing.{shareWith, sizesOk, writeOutcome}
-use Rattle.share_writing.proofs.WritingLaws.{write-3, write-7, write-23, write-24, write-25, write-rest}
-use Rattle.share_writing.proofs.WritingLaws.{share-length, far-places, judges-refused}
+use mathlib.Core.List.{List}
+use Prim.Native.Nat.{ℕ, _+_, _≤_}
 use native.Mathlib.Omega.{arith}
+use borrow.Author.Tests.{eq-eqb, ne-eqb, leb-true, leb-false, not-true, not-false}
+use Rattle.octets.specs.Lists.{sum}
+use Rattle.octets.specs.Rows.{firstRow}
+use Rattle.share_format.specs.Bounds.{packed}
+use Rattle.share_format.specs.Header.{headerSize}
+use Rattle.share_format.specs.Rows.{codingOk}
+use Rattle.share_format.proofs.PackedLaws.{packed-fits}
+use Rattle.octets.proofs.ListLaws.{both}
+use Rattle.share_format.specs.Rows.{segmentOk}
+use Rattle.share_format.specs.Header.{numberSize}
+use Rattle.octets.specs.Numbers.{fits}
+use Rattle.share_format.proofs.RowLaws.{coding-facts}
+use Rattle.share_writing.specs.Facts.{segmentFor, Judges}
+use Rattle.share_writing.specs.Writing.{sizesOk, segmentFits, boundsFit, rowsOf}
+use Rattle.share_writing.proofs.WritingLaws.{rows-3, rows-7, rows-23, rows-24, rows-25, rows-rest, judges-refused}
 use borrow.Author.Needs.{needs}
 use Rattle.share_writing.proofs.verdict_of.Statement.{statement}
 use Rattle.share_writing.proofs.verdict_of.Tie as tie
-
--- The share that the arguments name, once the tests of R and IV are passed.
-abbrev given : tie.Else2 → Share
-given c =
-    let a = c .before .before .before .before .before .before .before .before .before .before .args in
-    shareWith (a .sequence) (a .root .now) (a .iv .now) (a .required) (a .total) (a .data-length) (a .key .now)
-    (a .signature .now) (a .chain .now) (a .tree .now) (a .share-data .now) (a .private-key .now)
+use Rattle.share_writing.proofs.verdict_of.Reads as reads
+use Rattle.share_writing.proofs.verdict_of.Lts as lts
+use Rattle.share_format.proofs.header.iv_size.Reads as iv-size-reads
+use Rattle.share_format.proofs.header.size.Reads as size-reads
+use Rattle.share_format.proofs.rows.coding_ok.Reads as coding-ok-reads
+use Rattle.share_format.proofs.rows.content_outcome.Reads as content-outcome-reads
+use Rattle.share_writing.proofs.bounds_fit.Reads as bounds-fit-reads
+use Rattle.share_writing.proofs.has_room.Reads as has-room-reads
+use Rattle.share_writing.proofs.places.Reads as places-reads
+use Rattle.share_writing.proofs.refused.Reads as refused-reads
+use Rattle.share_writing.proofs.segment_of.Reads as segment-of-reads
 
 -- What stands once a test has been passed.
-sized : (c : tie.Else2) → sizesOk (given c .root) (given c .iv) ≡ true
+sized : (c : tie.Else2)
+    → let a = c .before .before .before .before .before .before .before .before .args in
+    sizesOk (a .mdmf) (a .root .now) (a .iv .now) ≡ true
 unfolding sizesOk
-sized c = rw (eq-eqb _ _ (c .before .if1 .left), eq-eqb _ _ (c .if2 .left))
+sized c =
+    let i = c .before in
+    rw (eq-eqb _ _ (i .before .if1 .left), eq-eqb _ _ (c .if2 .left ∙ i .iv-size .ensures))
 
-roomy : (c : tie.Else3) → let s = c .before .before .before in
-    shareLength (given s)
-    ≤ s .before .before .before .before .before .before .before .before .before .before .args .space
-unfolding shareLength partList
-roomy c = leb-true _ _ (sym (c .before .has-room .ensures) ∙ not-false _ (c .if3 .left))
+roomy : (c : tie.Else3)
+    → let a = c .before .before .before .before .before .before .before .before .before .before .before .before .args in
+    headerSize (a .mdmf) + sum (a .t9) ≤ a .space
+roomy c =
+    let h = c .before in
+    let e = sym (h .has-room .ensures) ∙ not-false _ (c .if3 .left) in
+    leb-true _ _ (rw (h .before .before .size .ensures) at e)
 
-coded : (c : tie.Else4) → let x = given (c .before .before .before .before .before) in
-    codingOk (x .required) (x .total) ≡ true
+coded : (c : tie.Else4)
+    → let a = c .before .before .before .before .before .before .before .before .before .before .before .before .before .before .args in
+    codingOk (a .required) (a .total) ≡ true
 coded c = sym (c .before .coding-ok .ensures) ∙ not-false _ (c .if4 .left)
 
-segmented : (c : tie.Else5) → let x = given (c .before .before .before .before .before .before .before .before) in
-    fits numberSize (segmentOf x) ≡ true
-unfolding segmentOf
-segmented c = sym (c .before .before .least-multiple .ensures .0) ∙ not-false _ (c .if5 .left)
+fitted : (c : tie.Else5)
+    → let a = c .before .before .before .before .before .before .before .before .before .before .before .before .before .before .before .before .before .args in
+    segmentFits (a .mdmf) (segmentFor (a .mdmf) (a .given) (a .required) (a .data-length)) (a .required)
+    (a .data-length)
+    ≡ true
+fitted c = sym (c .before .before .segment-of .ensures .0) ∙ not-false _ (c .if5 .left)
 
--- The segment size and the boundaries are those of the definitions.
-sized-segment : (c : tie.Else5) → let x = given (c .before .before .before .before .before .before .before .before) in
-    c .before .before .least-multiple .result .value ≡ segmentOf x
-unfolding segmentOf
-sized-segment c = c .before .before .least-multiple .ensures .1 (not-false _ (c .if5 .left))
+sized-segment : (c : tie.Else5)
+    → let a = c .before .before .before .before .before .before .before .before .before .before .before .before .before .before .before .before .before .args in
+    c .before .before .segment-of .result .value ≡ segmentFor (a .mdmf) (a .given) (a .required) (a .data-length)
+sized-segment c = c .before .before .segment-of .ensures .1 (not-false _ (c .if5 .left))
 
 laid : (c : tie.After-places)
-    → let x = given (c .before .before .before .before .before .before .before .before .before) in
-    c .places .result ≡ placesOf x
-unfolding placesOf partList
-laid c = c .places .ensures
+    → let a = c .before .before .before .before .before .before .before .before .before .before .before .before .before .before .before .before .before .before .args in
+    c .places .result ≡ packed (headerSize (a .mdmf)) (a .t9)
+laid c =
+    let r = c .before .before .before .before .before .before in
+    c .places .ensures ∙ rw (r .before .before .before .size .ensures)
 
 refused-requires : tie.Need-refused-requires
 refused-requires c κs = search needs
@@ -61,8 +81,11 @@ refused-requires c κs = search needs
 returns : tie.Need-returns
 unfolding sizesOk
 returns c =
-    judges-refused _ _ 3 _ (c .refused .ensures) (write-3 _ _ (rw (ne-eqb _ _ (c .before .if1 .taken))))
-    (omega arith)
+    judges-refused _ _ _ _ _ _ _ _ _ _ _ _ _ _ 3 (c .refused .ensures)
+    (rows-3 _ _ _ _ _ _ _ _ _ _ _ _ _ (rw (ne-eqb _ _ (c .before .if1 .taken)))) (omega arith)
+
+iv-size-requires : tie.Need-iv-size-requires
+iv-size-requires c κs = search needs
 
 refused-requires-2 : tie.Need-refused-requires-2
 refused-requires-2 c κs = search needs
@@ -71,9 +94,13 @@ returns-2 : tie.Need-returns-2
 unfolding sizesOk
 returns-2 c =
     let t = c .before in
-    judges-refused _ _ 3 _ (c .refused2 .ensures)
-    (write-3 _ _ (rw (eq-eqb _ _ (t .before .if1 .left), ne-eqb _ _ (t .if2 .taken))))
-    (omega arith)
+    let i = t .before in
+    let k = ne-eqb _ _ (λ h. t .if2 .taken (h ∙ sym (i .iv-size .ensures))) in
+    judges-refused _ _ _ _ _ _ _ _ _ _ _ _ _ _ 3 (c .refused2 .ensures)
+    (rows-3 _ _ _ _ _ _ _ _ _ _ _ _ _ (rw (eq-eqb _ _ (i .before .if1 .left), k))) (omega arith)
+
+size-requires : tie.Need-size-requires
+size-requires c κs = search needs
 
 slice-aggregate-has-room : tie.Need-slice-aggregate-has-room
 slice-aggregate-has-room c = search needs
@@ -85,12 +112,13 @@ refused-requires-3 : tie.Need-refused-requires-3
 refused-requires-3 c κs = search needs
 
 returns-3 : tie.Need-returns-3
-unfolding shareLength partList
 returns-3 c =
     let t = c .before in
-    let s = t .before .before .before in
-    let e = sym (t .before .has-room .ensures) ∙ not-true _ (t .if3 .taken) in
-    judges-refused _ _ 7 _ (c .refused3 .ensures) (write-7 (given s) _ (sized s) (leb-false _ _ e)) (omega arith)
+    let h = t .before in
+    let s = h .before .before .before in
+    let e = sym (h .has-room .ensures) ∙ not-true _ (t .if3 .taken) in
+    let k = leb-false _ _ (rw (h .before .before .size .ensures) at e) in
+    judges-refused _ _ _ _ _ _ _ _ _ _ _ _ _ _ 7 (c .refused3 .ensures) (rows-7 _ _ _ _ _ _ _ _ _ _ _ _ _ (sized s) k) (omega arith)
 
 coding-ok-requires : tie.Need-coding-ok-requires
 coding-ok-requires c κs = search needs
@@ -102,38 +130,38 @@ returns-4 : tie.Need-returns-4
 returns-4 c =
     let t = c .before in
     let r = t .before .before in
-    let s = r .before .before .before in
+    let s = r .before .before .before .before in
     let e = sym (t .before .coding-ok .ensures) ∙ not-true _ (t .if4 .taken) in
-    judges-refused _ _ 23 _ (c .refused4 .ensures) (write-23 (given s) _ (sized s) (roomy r) e) (omega arith)
+    judges-refused _ _ _ _ _ _ _ _ _ _ _ _ _ _ 23 (c .refused4 .ensures) (rows-23 _ _ _ _ _ _ _ _ _ _ _ _ _ (sized s) (roomy r) e) (omega arith)
 
-least-multiple-requires : tie.Need-least-multiple-requires
-least-multiple-requires c κs = coding-facts _ _ (coded c) .0
+segment-of-requires : tie.Need-segment-of-requires
+segment-of-requires c κs = coding-facts _ _ (coded c) .0
 
 refused-requires-5 : tie.Need-refused-requires-5
 refused-requires-5 c κs = search needs
 
 returns-5 : tie.Need-returns-5
-unfolding segmentOf
 returns-5 c =
     let t = c .before in
     let m = t .before .before in
     let k = m .before in
     let r = k .before .before in
-    let s = r .before .before .before in
-    let e = sym (m .least-multiple .ensures .0) ∙ not-true _ (t .if5 .taken) in
-    judges-refused _ _ 24 _ (c .refused5 .ensures) (write-24 (given s) _ (sized s) (roomy r) (coded k) e) (omega arith)
+    let s = r .before .before .before .before in
+    let e = sym (m .segment-of .ensures .0) ∙ not-true _ (t .if5 .taken) in
+    judges-refused _ _ _ _ _ _ _ _ _ _ _ _ _ _ 24 (c .refused5 .ensures)
+    (rows-24 _ _ _ _ _ _ _ _ _ _ _ _ _ (sized s) (roomy r) (coded k) e) (omega arith)
 
 places-requires : tie.Need-places-requires
 places-requires c κs =
     let r = c .before .before .before .before .before in
-    omega (arith, roomy r, share-length (given (r .before .before .before)))
+    let s = r .before .before .before .before .before .before .before .before .before .before .before .before in
+    (s .pre, rw (r .before .before .before .size .ensures) (omega (arith, roomy r)))
 
-placed-ok-requires : tie.Need-placed-ok-requires
-placed-ok-requires c κs =
+bounds-fit-requires : tie.Need-bounds-fit-requires
+bounds-fit-requires c κs =
     let r = c .before .before .before .before .before .before in
-    let s = r .before .before .before in
-    let b = s .before .before .before .before .before .before .before .before .before .before .fits .space in
-    rw (laid c) (far-places (given s) (omega (arith, roomy r, b)))
+    let s = r .before .before .before .before .before .before .before .before .before .before .before .before in
+    rw (laid c) (packed-fits _ (s .args .t9) (omega (arith, roomy r)))
 
 refused-requires-6 : tie.Need-refused-requires-6
 refused-requires-6 c κs = search needs
@@ -145,14 +173,20 @@ returns-6 c =
     let q = p .before in
     let k = q .before .before .before in
     let r = k .before .before in
-    let s = r .before .before .before in
-    let e = sym (t .before .placed-ok .ensures) ∙ not-true _ (t .if6 .taken) in
-    judges-refused _ _ 25 _ (c .refused6 .ensures)
-    (write-25 (given s) _ (sized s) (roomy r) (coded k) (segmented q) (rw (← laid p) e))
-    (omega arith)
+    let s = r .before .before .before .before in
+    let e = sym (t .before .bounds-fit .ensures) ∙ not-true _ (t .if6 .taken) in
+    judges-refused _ _ _ _ _ _ _ _ _ _ _ _ _ _ 25 (c .refused6 .ensures)
+    (rows-25 _ _ _ _ _ _ _ _ _ _ _ _ _ (sized s) (roomy r) (coded k) (fitted q) (rw (laid p) at e)) (omega arith)
 
 content-outcome-requires : tie.Need-content-outcome-requires
-content-outcome-requires c κs = coding-facts _ _ (coded (c .before .before .before .before .before .before)) .0
+unfolding segmentFits
+content-outcome-requires c κs =
+    let q = c .before .before .before in
+    let a = q .before .before .before .before .before .before .before .before .before .before .before .before .before .before .before .before .before .args in
+    let g = segmentFor (a .mdmf) (a .given) (a .required) (a .data-length) in
+    let k = coded (q .before .before .before) in
+    let f = both (fits numberSize g) (segmentOk (a .mdmf) g (a .required) (a .data-length)) (fitted q) in
+    (coding-facts _ _ k .0, rw (sized-segment q) (f .1))
 
 returns-7 : tie.Need-returns-7
 returns-7 c =
@@ -161,15 +195,13 @@ returns-7 c =
     let q = p .before in
     let k = q .before .before .before in
     let r = k .before .before in
-    let s = r .before .before .before in
-    let e = sym (o .before .placed-ok .ensures) ∙ not-false _ (o .if6 .left) in
-    let w = write-rest (given s) _ (sized s) (roomy r) (coded k) (segmented q) (rw (← laid p) e) in
-    let a = s .before .before .before .before .before .before .before .before .before .before .args in
-    let n : c .content-outcome .result ≡ writeOutcome (given s) (a .space) =
-    rw (w, ← sized-segment q) (c .content-outcome .ensures) in
+    let s = r .before .before .before .before in
+    let e = sym (o .before .bounds-fit .ensures) ∙ not-false _ (o .if6 .left) in
+    let w = rows-rest _ _ _ _ _ _ _ _ _ _ _ _ _ (sized s) (roomy r) (coded k) (fitted q) (rw (laid p) at e) in
     record {
-      number = n;
-      accepted = λ z. record { done = sym n ∙ z; segment-is = sized-segment q; bounds-are = laid p };
+      number = rw (sized-segment q) at (c .content-outcome .ensures) ∙ sym w;
+      segment = λ z. sized-segment q;
+      bounds = λ z. laid p;
     }
 
 pub verdict-of-spec : {M : Type 1} → statement M
@@ -178,8 +210,10 @@ verdict-of-spec =
     (tie.spec
     refused-requires
     returns
+    iv-size-requires
     refused-requires-2
     returns-2
+    size-requires
     slice-aggregate-has-room
     has-room-requires
     refused-requires-3
@@ -187,11 +221,11 @@ verdict-of-spec =
     coding-ok-requires
     refused-requires-4
     returns-4
-    least-multiple-requires
+    segment-of-requires
     refused-requires-5
     returns-5
     places-requires
-    placed-ok-requires
+    bounds-fit-requires
     refused-requires-6
     returns-6
     content-outcome-requires

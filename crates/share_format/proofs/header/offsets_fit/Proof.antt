@@ -1,15 +1,14 @@
--- The first four offsets are compared; the last two are known to fit.
+-- Of MDMF all are known to fit; of SDMF the first four are compared.
 use borrow.Author.Tests.{le-leb, lt-leb}
-use Rattle.share_format.proofs.HeaderLaws.{fits-four}
+use Rattle.share_format.proofs.HeaderLaws.{fits-all, fits-four}
 use borrow.Author.Needs.{needs}
 use Rattle.share_format.proofs.header.offsets_fit.Statement.{statement}
 use Rattle.share_format.proofs.header.offsets_fit.Tie as tie
-
-array-read-if1 : tie.Need-array-read-if1
-array-read-if1 c = search needs
+use Rattle.share_format.proofs.header.offsets_fit.Reads as reads
+use Rattle.share_format.proofs.header.offsets_fit.Lts as lts
 
 returns : tie.Need-returns
-returns c = rw (fits-four _ (c .before .pre), lt-leb _ _ (c .if1 .taken))
+returns c = rw (c .if1 .taken, fits-all _ (c .before .pre))
 
 array-read-if2 : tie.Need-array-read-if2
 array-read-if2 c = search needs
@@ -17,7 +16,7 @@ array-read-if2 c = search needs
 returns-2 : tie.Need-returns-2
 returns-2 c =
     let o = c .before in
-    rw (fits-four _ (o .before .pre), le-leb _ _ (o .if1 .left), lt-leb _ _ (c .if2 .taken))
+    rw (o .if1 .left, fits-four _ (o .before .pre), lt-leb _ _ (c .if2 .taken))
 
 array-read-if3 : tie.Need-array-read-if3
 array-read-if3 c = search needs
@@ -26,26 +25,40 @@ returns-3 : tie.Need-returns-3
 returns-3 c =
     let h = c .before in
     let o = h .before in
-    rw (fits-four _ (o .before .pre), le-leb _ _ (o .if1 .left), le-leb _ _ (h .if2 .left), lt-leb _ _ (c .if3 .taken))
+    rw (o .if1 .left, fits-four _ (o .before .pre), le-leb _ _ (h .if2 .left), lt-leb _ _ (c .if3 .taken))
+
+array-read-if4 : tie.Need-array-read-if4
+array-read-if4 c = search needs
+
+returns-4 : tie.Need-returns-4
+returns-4 c =
+    let k = c .before in
+    let h = k .before in
+    let o = h .before in
+    rw (o .if1 .left, fits-four _ (o .before .pre), le-leb _ _ (h .if2 .left), le-leb _ _ (k .if3 .left))
+    (rw (lt-leb _ _ (c .if4 .taken)))
 
 array-read-result : tie.Need-array-read-result
 array-read-result c = search needs
 
-returns-4 : tie.Need-returns-4
-returns-4 c =
-    let h = c .before in
+returns-5 : tie.Need-returns-5
+returns-5 c =
+    let k = c .before in
+    let h = k .before in
     let o = h .before in
-    rw (fits-four _ (o .before .pre), le-leb _ _ (o .if1 .left), le-leb _ _ (h .if2 .left), le-leb _ _ (c .if3 .left))
+    rw (o .if1 .left, fits-four _ (o .before .pre), le-leb _ _ (h .if2 .left), le-leb _ _ (k .if3 .left))
+    (rw (le-leb _ _ (c .if4 .left)))
 
 pub offsets-fit-spec : {M : Type 1} → statement M
 offsets-fit-spec =
     tie.close
     (tie.spec
-    array-read-if1
     returns
     array-read-if2
     returns-2
     array-read-if3
     returns-3
+    array-read-if4
+    returns-4
     array-read-result
-    returns-4)
+    returns-5)

@@ -1,101 +1,45 @@
--- Six stores, each behind the one before.
-use native.Mathlib.Omega.{arith}
-use Rattle.octets.proofs.MoveLaws.{stored-none, stored-more}
-use Rattle.octets.proofs.NumberLaws.{length-digits}
-use Rattle.share_format.specs.Header.{signatureField, offsetSize, farOffsetSize, offsetFields}
-use native.Mathlib.Omega.{arith}
+-- Each edition has its own.
+use mathlib.Core.Path.{_≡_, _∙_}
 use borrow.Author.Needs.{needs}
 use Rattle.share_format.proofs.header.put_offsets.Statement.{statement}
 use Rattle.share_format.proofs.header.put_offsets.Tie as tie
+use Rattle.share_format.proofs.header.put_offsets.Reads as reads
+use Rattle.share_format.proofs.header.put_offsets.Lts as lts
+use Rattle.share_format.proofs.header.put_mdmf_offsets.Reads as put-mdmf-offsets-reads
+use Rattle.share_format.proofs.header.put_sdmf_offsets.Reads as put-sdmf-offsets-reads
 
-array-read-put-u32 : tie.Need-array-read-put-u32
-array-read-put-u32 c = search needs
+put-mdmf-offsets-requires : tie.Need-put-mdmf-offsets-requires
+put-mdmf-offsets-requires c κs = rw (c .before .if1 .taken) at (c .before .before .before .pre .0)
 
-cast-put-u32 : tie.Need-cast-put-u32
-cast-put-u32 c = search needs
-
-put-u32-requires : tie.Need-put-u32-requires
-put-u32-requires c κs = search needs
-
-array-read-put-u32-2 : tie.Need-array-read-put-u32-2
-array-read-put-u32-2 c = search needs
-
-cast-put-u32-2 : tie.Need-cast-put-u32-2
-cast-put-u32-2 c = search needs
-
-put-u32-requires-2 : tie.Need-put-u32-requires-2
-put-u32-requires-2 c κs = search needs
-
-array-read-put-u32-3 : tie.Need-array-read-put-u32-3
-array-read-put-u32-3 c = search needs
-
-cast-put-u32-3 : tie.Need-cast-put-u32-3
-cast-put-u32-3 c = search needs
-
-put-u32-requires-3 : tie.Need-put-u32-requires-3
-put-u32-requires-3 c κs = search needs
-
-array-read-put-u32-4 : tie.Need-array-read-put-u32-4
-array-read-put-u32-4 c = search needs
-
-cast-put-u32-4 : tie.Need-cast-put-u32-4
-cast-put-u32-4 c = search needs
-
-put-u32-requires-4 : tie.Need-put-u32-requires-4
-put-u32-requires-4 c κs = search needs
-
-array-read-put-u64 : tie.Need-array-read-put-u64
-array-read-put-u64 c = search needs
-
-put-u64-requires : tie.Need-put-u64-requires
-put-u64-requires c κs = search needs
-
-array-read-put-u64-2 : tie.Need-array-read-put-u64-2
-array-read-put-u64-2 c = search needs
-
-put-u64-requires-2 : tie.Need-put-u64-requires-2
-put-u64-requires-2 c κs = search needs
+put-sdmf-offsets-requires : tie.Need-put-sdmf-offsets-requires
+put-sdmf-offsets-requires c κs =
+    let z = c .before .if1 .left in
+    let p = c .before .before .before .pre in
+    (rw z at (p .0), p .1 z)
 
 same-length : tie.Need-same-length
 same-length c = search needs
 
 returns : tie.Need-returns
-unfolding offsetFields
 returns c =
-    let e = c .before .before in
-    let p = e .before .before .before .before in
-    let d = p .before .before .before .before in
-    let t = d .before .before .before .before in
-    let h = t .before .before .before .before in
-    let g = h .before .before .before .before in
-    let a = g .before .before .before .args in
-    let s0 = stored-none signatureField (a .d .now) (omega arith) in
-    let s1 = stored-more _ _ offsetSize _ _ _ _ _ s0 (g .put-u32 .ensures) (length-digits offsetSize _) in
-    let s2 = stored-more _ _ offsetSize _ _ _ _ _ s1 (h .put-u322 .ensures) (length-digits offsetSize _) in
-    let s3 = stored-more _ _ offsetSize _ _ _ _ _ s2 (t .put-u323 .ensures) (length-digits offsetSize _) in
-    let s4 = stored-more _ _ offsetSize _ _ _ _ _ s3 (d .put-u324 .ensures) (length-digits offsetSize _) in
-    let s5 = stored-more _ _ farOffsetSize _ _ _ _ _ s4 (p .put-u64 .ensures) (length-digits farOffsetSize _) in
-    stored-more _ _ farOffsetSize _ _ _ _ _ s5 (e .put-u642 .ensures) (length-digits farOffsetSize _) .is
+    let o = c .before .before in
+    o .put-mdmf-offsets .ensures ∙ rw (o .before .before .if1 .taken)
+
+same-length-2 : tie.Need-same-length-2
+same-length-2 c = search needs
+
+returns-2 : tie.Need-returns-2
+returns-2 c =
+    let o = c .before .before in
+    o .put-sdmf-offsets .ensures ∙ rw (o .before .before .if1 .left)
 
 pub put-offsets-spec : {M : Type 1} → statement M
 put-offsets-spec =
     tie.close
     (tie.spec
-    array-read-put-u32
-    cast-put-u32
-    put-u32-requires
-    array-read-put-u32-2
-    cast-put-u32-2
-    put-u32-requires-2
-    array-read-put-u32-3
-    cast-put-u32-3
-    put-u32-requires-3
-    array-read-put-u32-4
-    cast-put-u32-4
-    put-u32-requires-4
-    array-read-put-u64
-    put-u64-requires
-    array-read-put-u64-2
-    put-u64-requires-2
+    put-mdmf-offsets-requires
+    put-sdmf-offsets-requires
     same-length
-    returns)
+    returns
+    same-length-2
+    returns-2)

@@ -3,7 +3,7 @@ use native.Mathlib.Omega.{arith}
 use Prim.Native.Nat.{_≤_}
 use borrow.Author.Tests.{eq-eqb, ne-eqb}
 use Rattle.share_format.specs.Rows.{chainOk}
-use Rattle.share_format.proofs.NodeLaws.{depth-bounds}
+use Rattle.share_format.proofs.NodeLaws.{depth-within, eight}
 use borrow.Author.Needs.{needs}
 use Rattle.share_format.proofs.rows.chain_ok.Statement.{statement}
 use Rattle.share_format.proofs.rows.chain_ok.Tie as tie
@@ -13,9 +13,9 @@ small : (c : tie.After-tree-over)
     × (1 ≤ c .tree-over .result .leaves)
     × (c .tree-over .result .leaves ≤ 256)
 small c =
-    let b = depth-bounds (c .before .before .args .total) (omega arith) in
+    let b = depth-within (c .before .before .args .total) 8 (omega (arith, eight)) in
     let e = c .tree-over .ensures in
-    (omega arith, omega arith, omega arith)
+    (omega arith, omega arith, omega (arith, eight))
 
 tree-over-requires : tie.Need-tree-over-requires
 tree-over-requires c κs = search needs

@@ -3,7 +3,8 @@ use mathlib.Core.Path.{_≡_, sym, _∙_}
 use mathlib.Core.Bool.{true}
 use borrow.Author.Tests.{eq-eqb, ne-eqb, not-true, not-false}
 use Rattle.octets.specs.Rows.{firstRow}
-use Rattle.share_format.specs.Rows.{chainOk, treeOk, blockOk, contentRows}
+use Rattle.share_format.specs.Rows.{chainOk, treeOk, blocksOk, contentRows}
+use Rattle.share_format.proofs.RowLaws.{segment-some}
 use borrow.Author.Needs.{needs}
 use Rattle.share_format.proofs.rows.content_outcome.Statement.{statement}
 use Rattle.share_format.proofs.rows.content_outcome.Tie as tie
@@ -14,12 +15,12 @@ chained : (c : tie.Else1) → let a = c .before .before .before .before .before 
 chained c = sym (c .before .chain-ok .ensures) ∙ not-false _ (c .if1 .left)
 
 treed : (c : tie.Else2) → let a = c .before .before .before .before .before .before .before .args in
-    treeOk (a .data-length) (a .tree .now) ≡ true
+    treeOk (a .mdmf) (a .segment) (a .data-length) (a .tree .now) ≡ true
 treed c = sym (c .before .tree-ok .ensures) ∙ not-false _ (c .if2 .left)
 
 blocked : (c : tie.Else3) → let a = c .before .before .before .before .before .before .before .before .before .args in
-    blockOk (a .segment) (a .k) (a .share-data .now) ≡ true
-blocked c = sym (c .before .block-ok .ensures) ∙ not-false _ (c .if3 .left)
+    blocksOk (a .mdmf) (a .segment) (a .k) (a .data-length) (a .share-data .now) ≡ true
+blocked c = sym (c .before .blocks-ok .ensures) ∙ not-false _ (c .if3 .left)
 
 chain-ok-requires : tie.Need-chain-ok-requires
 chain-ok-requires c κs = search needs
@@ -29,20 +30,24 @@ unfolding contentRows firstRow
 returns c = rw (sym (c .before .chain-ok .ensures) ∙ not-true _ (c .if1 .taken))
 
 tree-ok-requires : tie.Need-tree-ok-requires
-tree-ok-requires c κs = search needs
+tree-ok-requires c κs =
+    let s = c .before .before .before .before .before in
+    segment-some _ _ _ _ (s .pre .1)
 
 returns-2 : tie.Need-returns-2
 unfolding contentRows firstRow
 returns-2 c = rw (chained (c .before .before), sym (c .before .tree-ok .ensures) ∙ not-true _ (c .if2 .taken))
 
-block-ok-requires : tie.Need-block-ok-requires
-block-ok-requires c κs = search needs
+blocks-ok-requires : tie.Need-blocks-ok-requires
+blocks-ok-requires c κs =
+    let s = c .before .before .before .before .before .before .before in
+    (s .pre .0, segment-some _ _ _ _ (s .pre .1))
 
 returns-3 : tie.Need-returns-3
 unfolding contentRows firstRow
 returns-3 c =
     let t = c .before .before in
-    rw (chained (t .before .before), treed t, sym (c .before .block-ok .ensures) ∙ not-true _ (c .if3 .taken))
+    rw (chained (t .before .before), treed t, sym (c .before .blocks-ok .ensures) ∙ not-true _ (c .if3 .taken))
 
 returns-4 : tie.Need-returns-4
 unfolding contentRows firstRow
@@ -66,7 +71,7 @@ content-outcome-spec =
     returns
     tree-ok-requires
     returns-2
-    block-ok-requires
+    blocks-ok-requires
     returns-3
     returns-4
     returns-5)

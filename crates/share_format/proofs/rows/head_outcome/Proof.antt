@@ -2,42 +2,58 @@
 use mathlib.Core.Path.{_≡_, sym, _∙_}
 use mathlib.Core.Bool.{true, false}
 use native.Mathlib.Omega.{arith}
-use lib.Dec.{eqb, ltb}
+use lib.Dec.{ltb}
 use lib.ListN.{length}
-use borrow.Author.Tests.{eq-eqb, ne-eqb, lt-ltb, le-ltb, not-true, not-false}
+use borrow.Author.Tests.{lt-ltb, le-ltb, not-true, not-false}
 use Rattle.octets.specs.Rows.{firstRow}
-use Rattle.share_format.specs.Header.{keyAt, version, required, total}
+use Rattle.share_format.specs.Header.{headerSize, version, required, total}
 use Rattle.share_format.specs.Rows.{codingOk, headRows}
 use Rattle.share_format.proofs.RowLaws.{coding-facts}
 use borrow.Author.Needs.{needs}
 use Rattle.share_format.proofs.rows.head_outcome.Statement.{statement}
 use Rattle.share_format.proofs.rows.head_outcome.Tie as tie
+use Rattle.share_format.proofs.rows.head_outcome.Reads as reads
+use Rattle.share_format.proofs.rows.head_outcome.Lts as lts
+use Rattle.share_format.proofs.header.data_length.Reads as data-length-reads
+use Rattle.share_format.proofs.header.required.Reads as required-reads
+use Rattle.share_format.proofs.header.segment_size.Reads as segment-size-reads
+use Rattle.share_format.proofs.header.size.Reads as size-reads
+use Rattle.share_format.proofs.header.total.Reads as total-reads
+use Rattle.share_format.proofs.header.version.Reads as version-reads
+use Rattle.share_format.proofs.rows.coding_ok.Reads as coding-ok-reads
+use Rattle.share_format.proofs.rows.segment_ok.Reads as segment-ok-reads
 
 -- What stands once a test has been passed.
-long : (c : tie.Else1) → ltb (length (c .before .before .args .s .now)) keyAt ≡ false
-long c = le-ltb _ _ (c .if1 .left)
+long : (c : tie.Else1)
+    → let a = c .before .before .before .args in
+    ltb (length (a .s .now)) (headerSize (a .mdmf)) ≡ false
+long c = le-ltb _ _ (rw (c .before .size .ensures) at (c .if1 .left))
 
-zeroth : (c : tie.Else2) → eqb (version (c .before .before .before .before .args .s .now)) 0 ≡ true
-zeroth c = rw (← c .before .version .ensures) (eq-eqb _ _ (c .if2 .left))
+known : (c : tie.Else2) → ltb 1 (version (c .before .before .before .before .before .args .s .now)) ≡ false
+known c = le-ltb _ _ (rw (c .before .version .ensures) at (c .if2 .left))
 
 coded : (c : tie.Else3)
-    → let s = c .before .before .before .before .before .before .before .before .args .s .now in
-    codingOk (required s) (total s) ≡ true
+    → let a = c .before .before .before .before .before .before .before .before .before .args in
+    codingOk (required (a .mdmf) (a .s .now)) (total (a .mdmf) (a .s .now)) ≡ true
 coded c =
     let o = c .before in
     rw (← o .before .before .required .ensures, ← o .before .total .ensures)
     (sym (o .coding-ok .ensures) ∙ not-false _ (c .if3 .left))
 
+size-requires : tie.Need-size-requires
+size-requires c κs = search needs
+
 returns : tie.Need-returns
 unfolding headRows firstRow
-returns c = rw (lt-ltb _ _ (c .if1 .taken))
+returns c = rw (lt-ltb _ _ (rw (c .before .size .ensures) at (c .if1 .taken)))
 
 version-requires : tie.Need-version-requires
 version-requires c κs = search needs
 
 returns-2 : tie.Need-returns-2
 unfolding headRows firstRow
-returns-2 c = rw (long (c .before .before), ← c .before .version .ensures, ne-eqb _ _ (c .if2 .taken))
+returns-2 c =
+    rw (long (c .before .before), lt-ltb _ _ (rw (c .before .version .ensures) at (c .if2 .taken)))
 
 required-requires : tie.Need-required-requires
 required-requires c κs = search needs
@@ -55,7 +71,7 @@ returns-3 c =
     let v = o .before .before .before in
     rw (
       long (v .before .before),
-      zeroth v,
+      known v,
       ← o .before .before .required .ensures,
       ← o .before .total .ensures,
       sym (o .coding-ok .ensures) ∙ not-true _ (c .if3 .taken),
@@ -64,14 +80,14 @@ returns-3 c =
 segment-size-requires : tie.Need-segment-size-requires
 segment-size-requires c κs = search needs
 
-cast-is-least-multiple : tie.Need-cast-is-least-multiple
-cast-is-least-multiple c = search needs
+cast-segment-ok : tie.Need-cast-segment-ok
+cast-segment-ok c = search needs
 
 data-length-requires : tie.Need-data-length-requires
 data-length-requires c κs = search needs
 
-is-least-multiple-requires : tie.Need-is-least-multiple-requires
-is-least-multiple-requires c κs =
+segment-ok-requires : tie.Need-segment-ok-requires
+segment-ok-requires c κs =
     let n = c .before .before in
     let k = n .before .before .before .required .ensures in
     omega (arith, k, coding-facts _ _ (coded n) .0)
@@ -84,12 +100,12 @@ returns-4 c =
     let v = n .before .before .before .before in
     rw (
       long (v .before .before),
-      zeroth v,
+      known v,
       coded n,
       ← n .before .before .before .required .ensures,
       ← m .before .before .segment-size .ensures,
       ← m .before .data-length .ensures,
-      sym (m .is-least-multiple .ensures) ∙ not-true _ (c .if4 .taken),
+      sym (m .segment-ok .ensures) ∙ not-true _ (c .if4 .taken),
     )
 
 returns-5 : tie.Need-returns-5
@@ -100,18 +116,19 @@ returns-5 c =
     let v = n .before .before .before .before in
     rw (
       long (v .before .before),
-      zeroth v,
+      known v,
       coded n,
       ← n .before .before .before .required .ensures,
       ← m .before .before .segment-size .ensures,
       ← m .before .data-length .ensures,
-      sym (m .is-least-multiple .ensures) ∙ not-false _ (c .if4 .left),
+      sym (m .segment-ok .ensures) ∙ not-false _ (c .if4 .left),
     )
 
 pub head-outcome-spec : {M : Type 1} → statement M
 head-outcome-spec =
     tie.close
     (tie.spec
+    size-requires
     returns
     version-requires
     returns-2
@@ -120,8 +137,8 @@ head-outcome-spec =
     coding-ok-requires
     returns-3
     segment-size-requires
-    cast-is-least-multiple
+    cast-segment-ok
     data-length-requires
-    is-least-multiple-requires
+    segment-ok-requires
     returns-4
     returns-5)

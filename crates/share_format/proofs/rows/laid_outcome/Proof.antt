@@ -1,24 +1,44 @@
 -- The numbers as they were read; the parts are those that the definition takes.
-use mathlib.Core.Path.{_∙_}
-use Rattle.share_format.specs.Bounds.{partOf}
-use Rattle.share_format.specs.Header.{boundsOf}
-use Rattle.share_format.specs.Parts.{readBy, shareOf}
+use mathlib.Core.Path.{_≡_, _∙_}
+use mathlib.Core.Bool.{true, false}
+use mathlib.Core.List.{List}
+use Prim.Native.Nat.{ℕ, _<_}
+use native.Mathlib.Omega.{arith}
+use Rattle.share_format.specs.Facts.{PartInside, PartsInside}
+use Rattle.share_format.specs.Header.{Edition}
+use Rattle.share_format.specs.Parts.{chainPart, treePart, shareDataPart}
 use Rattle.share_format.specs.Rows.{laidRows}
 use borrow.Author.Needs.{needs}
 use Rattle.share_format.proofs.rows.laid_outcome.Statement.{statement}
 use Rattle.share_format.proofs.rows.laid_outcome.Tie as tie
+use Rattle.share_format.proofs.rows.laid_outcome.Reads as reads
+use Rattle.share_format.proofs.rows.laid_outcome.Lts as lts
+use Rattle.share_format.proofs.bounds.part.Reads as part-reads
+use Rattle.share_format.proofs.header.data_length.Reads as data-length-reads
+use Rattle.share_format.proofs.header.required.Reads as required-reads
+use Rattle.share_format.proofs.header.segment_size.Reads as segment-size-reads
+use Rattle.share_format.proofs.header.sequence.Reads as sequence-reads
+use Rattle.share_format.proofs.header.total.Reads as total-reads
+use Rattle.share_format.proofs.rows.chain_part.Reads as chain-part-reads
+use Rattle.share_format.proofs.rows.content_outcome.Reads as content-outcome-reads
+use Rattle.share_format.proofs.rows.share_data_part.Reads as share-data-part-reads
+use Rattle.share_format.proofs.rows.tree_part.Reads as tree-part-reads
 
-chain-at-requires : tie.Need-chain-at-requires
-chain-at-requires c κs = search needs
+-- Each of the three is one of seven parts.
+chain-below : (e : Edition) → chainPart e < 7
+chain-below false = omega arith
+chain-below true = omega arith
 
-tree-at-requires : tie.Need-tree-at-requires
-tree-at-requires c κs = search needs
+tree-below : (e : Edition) → treePart e < 7
+tree-below false = omega arith
+tree-below true = omega arith
 
-share-data-at-requires : tie.Need-share-data-at-requires
-share-data-at-requires c κs = search needs
+data-below : (e : Edition) → shareDataPart e < 7
+data-below false = omega arith
+data-below true = omega arith
 
-private-key-at-requires : tie.Need-private-key-at-requires
-private-key-at-requires c κs = search needs
+inside : (bs : List ℕ) (n : ℕ) {i j : ℕ} → j < 7 → PartsInside bs n → i ≡ j → (i < 7) × PartInside bs n i
+inside bs n {i} {j} h p e = rw e (h, p j h)
 
 sequence-requires : tie.Need-sequence-requires
 sequence-requires c κs = search needs
@@ -35,76 +55,72 @@ segment-size-requires c κs = search needs
 data-length-requires : tie.Need-data-length-requires
 data-length-requires c κs = search needs
 
-sub-content-outcome : tie.Need-sub-content-outcome
-sub-content-outcome c = search needs
+chain-part-requires : tie.Need-chain-part-requires
+chain-part-requires c κs = search needs
 
-part-content-outcome-start : tie.Need-part-content-outcome-start
-part-content-outcome-start c = search needs
+part-requires : tie.Need-part-requires
+part-requires c κs =
+    let s = c .before .before .before .before .before .before .before in
+    inside _ _ (chain-below (s .args .mdmf)) (s .pre .3) (c .chain-part .ensures)
 
-part-content-outcome-end : tie.Need-part-content-outcome-end
-part-content-outcome-end c = search needs
+tree-part-requires : tie.Need-tree-part-requires
+tree-part-requires c κs = search needs
 
-sub-content-outcome-2 : tie.Need-sub-content-outcome-2
-sub-content-outcome-2 c = search needs
+part-requires-2 : tie.Need-part-requires-2
+part-requires-2 c κs =
+    let s = c .before .before .before .before .before .before .before .before .before in
+    inside _ _ (tree-below (s .args .mdmf)) (s .pre .3) (c .tree-part .ensures)
 
-part-content-outcome-start-2 : tie.Need-part-content-outcome-start-2
-part-content-outcome-start-2 c = search needs
+share-data-part-requires : tie.Need-share-data-part-requires
+share-data-part-requires c κs = search needs
 
-part-content-outcome-end-2 : tie.Need-part-content-outcome-end-2
-part-content-outcome-end-2 c = search needs
-
-sub-content-outcome-3 : tie.Need-sub-content-outcome-3
-sub-content-outcome-3 c = search needs
-
-part-content-outcome-start-3 : tie.Need-part-content-outcome-start-3
-part-content-outcome-start-3 c = search needs
-
-part-content-outcome-end-3 : tie.Need-part-content-outcome-end-3
-part-content-outcome-end-3 c = search needs
+part-requires-3 : tie.Need-part-requires-3
+part-requires-3 c κs =
+    let s = c .before .before .before .before .before .before .before .before .before .before .before in
+    inside _ _ (data-below (s .args .mdmf)) (s .pre .3) (c .share-data-part .ensures)
 
 content-outcome-requires : tie.Need-content-outcome-requires
-content-outcome-requires c κs = search needs
+content-outcome-requires c κs =
+    let m = c .before .before .before .before .before .before in
+    let k = m .before .before .before in
+    let s = k .before .before .before in
+    rw (k .required .ensures, m .before .segment-size .ensures, m .data-length .ensures) (s .pre .1, s .pre .2)
 
 returns : tie.Need-returns
-unfolding laidRows shareOf readBy partOf boundsOf
+unfolding laidRows
 returns c =
-    let d = c .before .before .before .before in
-    let r = d .before .before .before in
-    let p = r .before .before in
+    let p = c .before .before .before .before .before in
+    let m = p .before .before in
+    let k = m .before .before .before in
     c .content-outcome .ensures
     ∙ rw (
-      p .before .before .before .chain-at .ensures,
-      p .before .before .tree-at .ensures,
-      p .before .share-data-at .ensures,
-      p .private-key-at .ensures,
-      r .before .sequence .ensures,
-      r .required .ensures,
-      d .before .before .total .ensures,
-      d .before .segment-size .ensures,
-      d .data-length .ensures,
+      c .before .part3 .ensures .0,
+      c .before .before .share-data-part .ensures,
+      c .before .before .before .part2 .ensures .0,
+      c .before .before .before .before .tree-part .ensures,
+      p .part .ensures .0,
+      p .before .chain-part .ensures,
+      m .data-length .ensures,
+      m .before .segment-size .ensures,
+      m .before .before .total .ensures,
+      k .required .ensures,
+      k .before .sequence .ensures,
     )
 
 pub laid-outcome-spec : {M : Type 1} → statement M
 laid-outcome-spec =
     tie.close
     (tie.spec
-    chain-at-requires
-    tree-at-requires
-    share-data-at-requires
-    private-key-at-requires
     sequence-requires
     required-requires
     total-requires
     segment-size-requires
     data-length-requires
-    sub-content-outcome
-    part-content-outcome-start
-    part-content-outcome-end
-    sub-content-outcome-2
-    part-content-outcome-start-2
-    part-content-outcome-end-2
-    sub-content-outcome-3
-    part-content-outcome-start-3
-    part-content-outcome-end-3
+    chain-part-requires
+    part-requires
+    tree-part-requires
+    part-requires-2
+    share-data-part-requires
+    part-requires-3
     content-outcome-requires
     returns)

@@ -1,20 +1,34 @@
--- One hash, or for no data none.
-use borrow.Author.Tests.{eq-eqb, ne-eqb}
+-- Each edition has its own.
+use borrow.Author.Needs.{needs}
+use mathlib.Core.Path.{_∙_}
 use Rattle.share_format.specs.Rows.{treeOk}
 use Rattle.share_format.proofs.rows.tree_ok.Statement.{statement}
 use Rattle.share_format.proofs.rows.tree_ok.Tie as tie
+use Rattle.share_format.proofs.rows.tree_ok.Reads as reads
+use Rattle.share_format.proofs.rows.tree_ok.Lts as lts
+use Rattle.share_format.proofs.rows.full_tree_ok.Reads as full-tree-ok-reads
+use Rattle.share_format.proofs.rows.one_hash_ok.Reads as one-hash-ok-reads
+use Rattle.share_format.proofs.rows.segments.Reads as segments-reads
+
+segments-requires : tie.Need-segments-requires
+segments-requires c κs = c .before .before .pre (c .if1 .taken)
+
+full-tree-ok-requires : tie.Need-full-tree-ok-requires
+full-tree-ok-requires c κs = search needs
+
+one-hash-ok-requires : tie.Need-one-hash-ok-requires
+one-hash-ok-requires c κs = search needs
 
 returns : tie.Need-returns
 unfolding treeOk
-returns c = rw (eq-eqb _ _ (c .if1 .taken))
+returns c =
+    c .full-tree-ok .ensures ∙ rw (c .before .before .if1 .taken, c .before .segments .ensures)
 
 returns-2 : tie.Need-returns-2
 unfolding treeOk
-returns-2 c = rw (ne-eqb _ _ (c .before .if1 .left), ne-eqb _ _ (c .if2 .taken))
-
-returns-3 : tie.Need-returns-3
-unfolding treeOk
-returns-3 c = rw (ne-eqb _ _ (c .before .if1 .left), eq-eqb _ _ (c .if2 .left))
+returns-2 c = c .one-hash-ok .ensures ∙ rw (c .before .if1 .left)
 
 pub tree-ok-spec : {M : Type 1} → statement M
-tree-ok-spec = tie.close (tie.spec returns returns-2 returns-3)
+tree-ok-spec =
+    tie.close
+    (tie.spec segments-requires full-tree-ok-requires one-hash-ok-requires returns returns-2)

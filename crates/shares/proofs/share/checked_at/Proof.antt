@@ -1,10 +1,21 @@
 -- A number other than 0 refuses; on 0 the offsets are in order, so the boundaries may be formed.
-use mathlib.Core.Path.{sym, _∙_}
-use Rattle.share_format.proofs.RowLaws.{order-facts, outcome-ordered}
-use Rattle.shares.proofs.ShareLaws.{checked-refused, checked-zero}
+use mathlib.Core.Path.{_≡_, sym, ap, _∙_}
+use Rattle.share_format.proofs.RowLaws.{head-facts, outcome-ordered}
+use Rattle.share_format.specs.Header.{Edition, versionOf}
+use Rattle.shares.proofs.ShareLaws.{checked-refused, checked-zero, accepted-inside}
 use borrow.Author.Needs.{needs}
 use Rattle.shares.proofs.share.checked_at.Statement.{statement}
 use Rattle.shares.proofs.share.checked_at.Tie as tie
+use Rattle.shares.proofs.share.checked_at.Reads as reads
+use Rattle.shares.proofs.share.checked_at.Lts as lts
+use Rattle.share_format.proofs.header.is_mdmf.Reads as is-mdmf-reads
+use Rattle.share_format.proofs.rows.outcome.Reads as outcome-reads
+use Rattle.shares.proofs.share.bounds_at.Reads as bounds-at-reads
+use Rattle.shares.proofs.share.edition.Reads as edition-reads
+use Rattle.shares.proofs.share.refused.Reads as refused-reads
+
+is-mdmf-requires : tie.Need-is-mdmf-requires
+is-mdmf-requires c κs = search needs
 
 outcome-requires : tie.Need-outcome-requires
 outcome-requires c κs = search needs
@@ -13,17 +24,37 @@ refused-requires : tie.Need-refused-requires
 refused-requires c κs = search needs
 
 returns : tie.Need-returns
-returns c = c .refused .ensures ∙ checked-refused _ _ _ (c .before .before .outcome .ensures) (c .before .if1 .taken)
+returns c =
+    let o = c .before .before in
+    c .refused .ensures
+    ∙ rw (o .before .is-mdmf .ensures) (checked-refused _ _ _ (o .outcome .ensures) (c .before .if1 .taken))
+
+edition-requires : tie.Need-edition-requires
+edition-requires c κs = search needs
 
 bounds-at-requires : tie.Need-bounds-at-requires
 bounds-at-requires c κs =
-    let z = sym (c .before .outcome .ensures) ∙ c .if1 .left in
-    (order-facts _ (outcome-ordered _ z), c .before .before .before .pre)
+    let o = c .before .before in
+    let e = o .before .is-mdmf .ensures in
+    let z = sym (o .outcome .ensures) ∙ c .before .if1 .left in
+    let h = head-facts _ _ (outcome-ordered _ z .0) in
+    (e, rw e (h .0), rw e (accepted-inside _ z), o .before .before .before .pre)
 
 returns-2 : tie.Need-returns-2
 returns-2 c =
-    checked-zero _ _ _ (sym (c .before .before .outcome .ensures) ∙ c .before .if1 .left) (c .bounds-at .ensures)
+    let o = c .before .before .before in
+    let e = o .before .is-mdmf .ensures in
+    let z = sym (o .outcome .ensures) ∙ c .before .before .if1 .left in
+    checked-zero _ _ _ _ z (c .before .edition .ensures ∙ ap versionOf e) (c .bounds-at .ensures)
 
 pub checked-at-spec : {M : Type 1} → statement M
 checked-at-spec =
-    tie.close (tie.spec outcome-requires refused-requires returns bounds-at-requires returns-2)
+    tie.close
+    (tie.spec
+    is-mdmf-requires
+    outcome-requires
+    refused-requires
+    returns
+    edition-requires
+    bounds-at-requires
+    returns-2)

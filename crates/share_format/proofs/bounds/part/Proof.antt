@@ -1,9 +1,11 @@
 -- The part between two boundaries is what the definition takes.
-use Rattle.container.proofs.DataLaws.{beyond-is}
+use native.Mathlib.Nat.{add-comm}
 use Rattle.share_format.proofs.BoundLaws.{part-is}
 use borrow.Author.Needs.{needs}
-use Rattle.shares.proofs.share.part_of.Statement.{statement}
-use Rattle.shares.proofs.share.part_of.Tie as tie
+use Rattle.share_format.proofs.bounds.part.Statement.{statement}
+use Rattle.share_format.proofs.bounds.part.Tie as tie
+use Rattle.share_format.proofs.bounds.part.Reads as reads
+use Rattle.share_format.proofs.bounds.part.Lts as lts
 
 mul-a : tie.Need-mul-a
 mul-a c = search needs
@@ -32,10 +34,10 @@ part-result-end c = search needs
 returns : tie.Need-returns
 returns c =
     let a = c .before .args in
-    (part-is (a .i) _ (a .s .now), beyond-is (a .s .ptr) _)
+    (part-is (a .i) _ (a .s .now), rw add-comm)
 
-pub part-of-spec : {M : Type 1} → statement M
-part-of-spec =
+pub part-spec : {M : Type 1} → statement M
+part-spec =
     tie.close
     (tie.spec
     mul-a

@@ -1,0 +1,23 @@
+-- Each edition has its own.
+use mathlib.Core.Path.{_≡_, _∙_}
+use Rattle.share_format.proofs.header.bounds.Statement.{statement}
+use Rattle.share_format.proofs.header.bounds.Tie as tie
+use Rattle.share_format.proofs.header.bounds.Reads as reads
+use Rattle.share_format.proofs.header.bounds.Lts as lts
+use Rattle.share_format.proofs.header.mdmf_bounds.Reads as mdmf-bounds-reads
+use Rattle.share_format.proofs.header.sdmf_bounds.Reads as sdmf-bounds-reads
+
+mdmf-bounds-requires : tie.Need-mdmf-bounds-requires
+mdmf-bounds-requires c κs = rw (c .if1 .taken) at (c .before .before .pre)
+
+sdmf-bounds-requires : tie.Need-sdmf-bounds-requires
+sdmf-bounds-requires c κs = rw (c .if1 .left) at (c .before .before .pre)
+
+returns : tie.Need-returns
+returns c = c .mdmf-bounds .ensures ∙ rw (c .before .if1 .taken)
+
+returns-2 : tie.Need-returns-2
+returns-2 c = c .sdmf-bounds .ensures ∙ rw (c .before .if1 .left)
+
+pub bounds-spec : {M : Type 1} → statement M
+bounds-spec = tie.close (tie.spec mdmf-bounds-requires sdmf-bounds-requires returns returns-2)

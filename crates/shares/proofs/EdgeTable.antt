@@ -1,0 +1,19 @@
+-- The edge table of the share check, by computing. Assumes nothing.
+use mathlib.Core.Path.{refl}
+use Rattle.octets.specs.Lists.{anyOf, sum}
+use Rattle.octets.specs.Numbers.{numberAfter, number, numberAt, digits}
+use Rattle.octets.specs.Rows.{firstRow}
+use Rattle.share_format.specs.Bounds.{inOrder, partOf}
+use Rattle.share_format.specs.Header.{editionOf, numbersFrom, offsetsOf, boundsOf}
+use Rattle.share_format.specs.Nodes.{depthFrom, depth, power, nodesFrom, nodesOk}
+use Rattle.share_format.specs.Parts.{leastMultiple}
+use Rattle.share_format.specs.Rows.{codingOk, segmentOk, placedOk, ordered, chainOk, roundedUp, segments, treeSize, treeOk}
+use Rattle.share_format.specs.Rows.{blocksSize, blocksOk, contentRows, headRows, laidRows, bodyRows, shareOutcome}
+use Rattle.shares.specs.Share.{boundsAt, checkedAt, checkedOf}
+use Rattle.shares.specs.Edges.{CheckEdgesHold}
+
+pub check-edges : CheckEdgesHold
+unfolding anyOf sum numberAfter number numberAt digits firstRow inOrder partOf editionOf numbersFrom offsetsOf boundsOf
+    depthFrom depth power nodesFrom nodesOk leastMultiple codingOk segmentOk placedOk ordered chainOk roundedUp segments
+    treeSize treeOk blocksSize blocksOk contentRows headRows laidRows bodyRows shareOutcome boundsAt checkedAt checkedOf
+check-edges = record { table = refl; mdmf-bounds = refl; sdmf-bounds = refl }
