@@ -10,6 +10,7 @@ use libc::STDOUT_FILENO;
 use replies::pieces::LENGTH_SIZE;
 use requests::cursors::Cursor;
 use rules::Answer;
+use shares::share::MDMF;
 ghost use Prim.Native.Nat.{_+_, _*_, _≤_, _<_};
 ghost use lib.ListN.{length};
 ghost use Rattle.io.specs.Counts.{Counts};
@@ -339,27 +340,51 @@ fn share_part(name: &[u8], part: &[u8]) {
     number(part.len() as u64);
 }
 
-fn share_parts(c: &[u8]) {
-    share_part(b"    an SDMF share: key ", shares::share::container_key(c));
+// The parts of a share, in one order for both editions; only MDMF has spare bytes.
+fn share_parts(c: &[u8], edition: u32) {
+    share_part(b" share: key ", shares::share::container_key(c));
     share_part(b", signature ", shares::share::container_signature(c));
     share_part(b", chain ", shares::share::container_chain(c));
     share_part(b", tree ", shares::share::container_tree(c));
     share_part(b", share data ", shares::share::container_share_data(c));
     share_part(b", private key ", shares::share::container_private_key(c));
+    if edition == MDMF {
+        share_part(b", spare ", shares::share::container_spare(c));
+    }
     write(b" bytes\n");
+}
+
+fn edition_name(edition: u32) {
+    if edition == MDMF {
+        write(b"MDMF");
+    } else {
+        write(b"SDMF");
+    }
+}
+
+// A refusal as a share. 22 is of neither edition.
+fn no_share(outcome: u32, edition: u32) {
+    write(b"    no ");
+    if outcome != 22 {
+        edition_name(edition);
+        write(b" ");
+    }
+    write(b"share: outcome ");
+    number(outcome as u64);
+    write(b"\n");
 }
 
 // The share in a container's data; data too short for a share's header is passed over.
 pub(crate) fn share(c: &[u8]) {
     let checked = shares::share::check_container(c);
     if checked.number == 0 {
-        share_parts(c);
+        write(b"    an ");
+        edition_name(checked.edition);
+        share_parts(c, checked.edition);
         return;
     }
     if checked.number < 22 {
         return;
     }
-    write(b"    no SDMF share: outcome ");
-    number(checked.number as u64);
-    write(b"\n");
+    no_share(checked.number, checked.edition);
 }

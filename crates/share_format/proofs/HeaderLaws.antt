@@ -4,7 +4,6 @@ use mathlib.Core.Path.{_≡_, refl, sym, ap, _∙_}
 use mathlib.Core.Bool.{Bool, true, false, _&&_, false≢true}
 use mathlib.Core.List.{List, [], _∷_, _++_, append-assoc}
 use Prim.Native.Nat.{ℕ, zero, suc, _+_, _^_, _≤_, _<_}
-use native.Mathlib.Nat.{not-suc-le-zero}
 use native.Mathlib.Omega.{arith}
 use lib.Dec.{leb, ltb}
 use lib.ListN.{length, take, drop, getD, length-append}
@@ -18,7 +17,8 @@ use Rattle.octets.proofs.NumberLaws.{length-digits, number-digits, digits-at, n
 use Rattle.share_format.specs.Header.{Edition, hashSize, ivSize, numberSize, offsetSize, offsetSizes, offsetsAt}
 use Rattle.share_format.specs.Header.{headerSize, numbersFrom, digitsOf, eachFits, toldOf, numberFields}
 use Rattle.share_format.specs.Header.{offsetFields, offsetsFit}
-use Rattle.share_format.specs.Facts.{FitEach, NarrowOffsets}
+use Rattle.share_format.specs.Claims.{FitEach}
+use Rattle.share_format.specs.Facts.{NarrowOffsets}
 
 -- ---- lengths
 pub length-numbers : (e : Edition) (sequence : ℕ) (root iv : List ℕ) (required total segment dataLength : ℕ)
@@ -33,7 +33,8 @@ unfolding sum
 sizes-sum false = refl
 sizes-sum true = refl
 
-pub length-offsets : (e : Edition) (bounds : List ℕ) → offsetsAt e + length (join (offsetFields e bounds)) ≡ headerSize e
+pub length-offsets : (e : Edition) (bounds : List ℕ)
+    → offsetsAt e + length (join (offsetFields e bounds)) ≡ headerSize e
 unfolding offsetFields digitsOf toldOf join
 length-offsets false bounds = simp (length-append, length-digits)
 length-offsets true bounds = simp (length-append, length-digits)

@@ -15,7 +15,6 @@ use Rattle.octets.specs.Lists.{sum}
 use Rattle.octets.specs.Strings.{join}
 use Rattle.octets.proofs.ListLaws.{both, field-then, field-back}
 use Rattle.share_format.specs.Bounds.{inOrder, partOf, packed}
-use Rattle.share_format.specs.Facts.{EachLeast}
 use Rattle.share_format.proofs.BoundLaws.{lastOf, in-order-parts}
 
 -- ---- from the parts to their boundaries
@@ -80,6 +79,13 @@ pub packed-head : (a : ℕ) (ns : List ℕ) → packed a ns ≡ a ∷ drop 1 (pa
 unfolding packed
 packed-head a [] = refl
 packed-head a (n ∷ ns) = refl
+
+-- Each number is at least its least, and there are as many.
+abbrev pub EachLeast : List ℕ → List ℕ → Type 0
+EachLeast [] [] = Unit {0}
+EachLeast [] (n ∷ ns) = ⊥
+EachLeast (m ∷ ms) [] = ⊥
+EachLeast (m ∷ ms) (n ∷ ns) = (m ≤ n) × EachLeast ms ns
 
 -- They are in order exactly when each has its least size.
 pub packed-facts : (ms ns : List ℕ) (a : ℕ) → inOrder ms a (drop 1 (packed a ns)) ≡ true → EachLeast ms ns

@@ -1,4 +1,4 @@
--- The rows of the table: the least multiple, rounding up, the order of the offsets, and the number in two steps. Assumes
+-- The rows of the table: the least multiple, rounding up, the order of the offsets, the number in two steps. Assumes
 -- nothing.
 use mathlib.Core.Path.{_≡_, refl, sym, ap, _∙_}
 use mathlib.Core.Bool.{Bool, true, false, cond, not, _&&_, false≢true}

@@ -1,7 +1,7 @@
 -- What some of the definitions mean (docs/RULES.md, S31, S32, S55), proved in proofs/; shares made of bytes.
 use mathlib.Core.Path.{_≡_}
-use mathlib.Core.List.{List}
-use Prim.Native.Nat.{ℕ, _*_, _%_, _≤_, _<_}
+use mathlib.Core.List.{List, [], _∷_}
+use Prim.Native.Nat.{ℕ, _*_, _%_, _^_, _≤_, _<_}
 use Rattle.octets.specs.Facts.{Each, Octets, Fits64}
 use Rattle.share_format.specs.Nodes.{depth, power}
 use Rattle.share_format.specs.Parts.{Share, sdmf, mdmf, leastMultiple, sequenceIn, rootIn, ivIn, requiredIn}
@@ -24,6 +24,12 @@ DepthIsLeast = (n : ℕ) → (n ≤ power (depth n)) × ((c : ℕ) → n ≤ pow
 -- n / k rounded up is the least number of which k times reaches n (S55).
 abbrev pub RoundedIsLeast : Type 0
 RoundedIsLeast = (n k : ℕ) → 0 < k → (n ≤ roundedUp n k * k) × ((q : ℕ) → n ≤ q * k → roundedUp n k ≤ q)
+
+-- Each number fits its field of so many bytes; what `eachFits` tests (S9 to S14, S50).
+abbrev pub FitEach : List ℕ → List ℕ → Type 0
+FitEach (n ∷ ns) (v ∷ vs) = (v < 256 ^ n) × FitEach ns vs
+FitEach (n ∷ ns) [] = Unit {0}
+FitEach [] vs = Unit {0}
 
 -- What the types of a writer's arguments say of numbers, where no row says it (S40, S53).
 abbrev pub ArgumentsFit : Share → Type 0

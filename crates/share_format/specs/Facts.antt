@@ -1,6 +1,6 @@
 -- Facts that hold between a share's parts, which functions hand to each other.
-use Prim.Native.Nat.{ℕ, _+_, _^_, _≤_, _<_}
-use mathlib.Core.List.{List, [], _∷_}
+use Prim.Native.Nat.{ℕ, _+_, _≤_, _<_}
+use mathlib.Core.List.{List}
 use lib.ListN.{getD}
 use Rattle.octets.specs.Facts.{Fits32}
 
@@ -12,19 +12,6 @@ pub record PartInside (bs : List ℕ) (n i : ℕ) : Type 0 where
 -- Each of the seven parts does.
 abbrev pub PartsInside : List ℕ → ℕ → Type 0
 PartsInside bs n = (i : ℕ) → i < 7 → PartInside bs n i
-
--- Each number is at least its least, and there are as many.
-abbrev pub EachLeast : List ℕ → List ℕ → Type 0
-EachLeast [] [] = Unit {0}
-EachLeast [] (n ∷ ns) = ⊥
-EachLeast (m ∷ ms) [] = ⊥
-EachLeast (m ∷ ms) (n ∷ ns) = (m ≤ n) × EachLeast ms ns
-
--- Each number fits its field of so many bytes.
-abbrev pub FitEach : List ℕ → List ℕ → Type 0
-FitEach (n ∷ ns) (v ∷ vs) = (v < 256 ^ n) × FitEach ns vs
-FitEach (n ∷ ns) [] = Unit {0}
-FitEach [] vs = Unit {0}
 
 -- SDMF's first four offsets fit their fields.
 pub record NarrowOffsets (bounds : List ℕ) : Type 0 where

@@ -23,8 +23,8 @@ version s = getD s 0 0
 unfoldable pub editionOf : List ℕ → Edition
 editionOf s = eqb (version s) 1
 
--- The sizes of the fields: a hash, which R is; a salt, which IV is, and MDMF's header has none; sequence number, segment
--- size and data length; SDMF's first four offsets; all others (S2 to S14, S46 to S50).
+-- The sizes of the fields: a hash, which R is; a salt, which IV is, and MDMF's header has none; sequence number,
+-- segment size and data length; SDMF's first four offsets; all others (S2 to S14, S46 to S50).
 abbrev pub hashSize : ℕ
 hashSize = 32
 
@@ -102,7 +102,8 @@ segmentSize e s = numberAt numberSize (segmentAt e) s
 abbrev pub dataLength : Edition → List ℕ → ℕ
 dataLength e s = numberAt numberSize (lengthAt e) s
 
--- Numbers in fields of these sizes, one behind the other: reading them from p on, writing them, whether each fits.
+-- Numbers in fields of these sizes, one behind the other: reading them from p on, writing them, whether each fits (S9
+-- to S14, S50).
 unfoldable pub numbersFrom : ℕ → List ℕ → List ℕ → List ℕ
 numbersFrom p [] s = []
 numbersFrom p (n ∷ ns) s = numberAt n p s ∷ numbersFrom (p + n) ns s

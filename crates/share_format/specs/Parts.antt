@@ -1,4 +1,4 @@
--- A share as numbers and parts (docs/RULES.md, S40, S41, S53): what reading it gives, and the bytes that they determine.
+-- A share as numbers and parts (docs/RULES.md, S40, S41, S53): what reading gives, and the bytes that they determine.
 use Prim.Native.Nat.{ℕ, _+_, _-_, _%_}
 use mathlib.Core.Bool.{true, false, cond}
 use mathlib.Core.List.{List, [], _∷_, _++_, map}
@@ -25,7 +25,7 @@ pub record Sdmf : Type 0 where
   pub shareData : List ℕ
   pub privateKey : List ℕ
 
--- MDMF: sequence number, R, k, N, segment size, data length; then the seven parts, in the order in which they lie (S53).
+-- MDMF: sequence number, R, k, N, segment size, data length; then the seven parts, in their order (S53).
 pub record Mdmf : Type 0 where
   pub sequence : ℕ
   pub root : List ℕ

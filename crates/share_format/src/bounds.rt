@@ -5,8 +5,8 @@ ghost use lib.ListN.{length, getD, drop};
 ghost use Rattle.share_format.specs.Bounds.{inOrder, partOf};
 ghost use Rattle.share_format.specs.Facts.{PartInside};
 
-// Whether each part has at least its least size. The boundaries are compared as they stand; only those that are in order
-// are used as places in the slice.
+// Whether each part has at least its least size. The boundaries are compared as they stand; only those that are in
+// order are used as places in the slice.
 pub(crate) fn in_order(bounds: &[u64], least: &[u64]) -> bool
     requires { ⌜ length (now bounds) ≡ suc (length (now least)) ⌝ }
     ensures { λ r. ⌜ r

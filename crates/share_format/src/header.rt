@@ -68,8 +68,10 @@ const MDMF_OFFSETS_AT: usize = MDMF_REQUIRED_AT + TO_OFFSETS;
 
 const MDMF_SIZE: u64 = (MDMF_OFFSETS_AT + 8 * FAR_OFFSET_SIZE) as u64;
 
-// MDMF's version byte.
-pub(crate) const MDMF_VERSION: u8 = 1;
+// The version bytes.
+const SDMF_VERSION: u8 = 0;
+
+pub const MDMF_VERSION: u8 = 1;
 
 // The largest offset that four bytes hold.
 const LAST_OFFSET: u64 = 4294967295;
@@ -230,10 +232,10 @@ fn put_numbers(
     numbers::put_u64(d, at + TO_LENGTH, data_length);
 }
 
-fn version_of(mdmf: bool) -> u8
+pub fn version_of(mdmf: bool) -> u8
     ensures { λ r. ⌜ r ≡ versionOf mdmf ⌝ }
 {
-    if mdmf { MDMF_VERSION } else { 0 }
+    if mdmf { MDMF_VERSION } else { SDMF_VERSION }
 }
 
 fn put_sdmf_offsets(d: &mut [u8], bounds: [u64; 8])

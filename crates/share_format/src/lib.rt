@@ -2,4 +2,5 @@
 pub mod bounds;
 pub mod header;
 mod nodes;
+pub mod parts;
 pub mod rows;

@@ -11,14 +11,15 @@ ghost use Rattle.octets.specs.Lists.{anyOf};
 // An entry of the chain: a node number of 2 bytes, and its hash.
 pub(crate) const CHAIN_ENTRY_SIZE: usize = 2 + HASH_SIZE;
 
-// The tree over n leaves or shares: its depth c, the least with 2^c at or above n, and its 2^c leaves.
+// The tree over n shares or segments: its depth c, the least with 2^c at or above n, and its 2^c leaves.
 pub(crate) struct Over {
     pub(crate) depth: usize,
     pub(crate) leaves: u64,
 }
 
+// At most 2^62, so that no sum of nodes exceeds 64 bits.
 pub(crate) fn tree_over(n: u64) -> Over
-    requires { ⌜ n ≤ 4611686018427387904 ⌝ }
+    requires { ⌜ n ≤ power 62 ⌝ }
     ensures { λ r. ⌜ (r .depth ≡ depth n) × (r .leaves ≡ power (depth n)) ⌝ }
 {
     let mut depth = 0;

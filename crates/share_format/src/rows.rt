@@ -4,6 +4,7 @@ use crate::header;
 use crate::header::HASH_SIZE;
 use crate::header::SALT_SIZE;
 use crate::nodes;
+use crate::parts;
 ghost use mathlib.Core.Path.{_≡_};
 ghost use mathlib.Core.Bool.{true, false};
 ghost use Prim.Native.Nat.{_≤_, _<_};
@@ -13,9 +14,8 @@ ghost use Rattle.octets.specs.Numbers.{fits};
 ghost use Rattle.octets.specs.Rows.{firstRow};
 ghost use Rattle.share_format.specs.Facts.{PartsInside};
 ghost use Rattle.share_format.specs.Header.{headerSize, numberSize, required, segmentSize, dataLength};
-ghost use Rattle.share_format.specs.Header.{boundsOf};
-ghost use Rattle.share_format.specs.Parts.{leastMultiple, chainPart, treePart, shareDataPart};
-ghost use Rattle.share_format.specs.Rows.{codingOk, segmentOk, placedOk, ordered, chainOk, roundedUp, segments};
+ghost use Rattle.share_format.specs.Parts.{leastMultiple};
+ghost use Rattle.share_format.specs.Rows.{codingOk, segmentOk, placedOk, chainOk, roundedUp, segments};
 ghost use Rattle.share_format.specs.Rows.{treeSize, treeOk, blocksSize, blocksOk, contentRows};
 ghost use Rattle.share_format.specs.Rows.{headRows, laidRows, bodyRows, shareOutcome};
 
@@ -267,25 +267,6 @@ fn head_outcome(s: &[u8], mdmf: bool) -> u32
     0
 }
 
-// Which part is the chain, the tree, the share data.
-fn chain_part(mdmf: bool) -> usize
-    ensures { λ r. ⌜ r ≡ chainPart mdmf ⌝ }
-{
-    if mdmf { 1 } else { 2 }
-}
-
-fn tree_part(mdmf: bool) -> usize
-    ensures { λ r. ⌜ r ≡ treePart mdmf ⌝ }
-{
-    if mdmf { 6 } else { 3 }
-}
-
-fn share_data_part(mdmf: bool) -> usize
-    ensures { λ r. ⌜ r ≡ shareDataPart mdmf ⌝ }
-{
-    if mdmf { 5 } else { 4 }
-}
-
 // Rows 26 to 29 of a share whose offsets are in order: its parts are taken where they lie.
 fn laid_outcome(s: &[u8], mdmf: bool, bounds: [u64; 8]) -> u32
     requires { ⌜ (headerSize mdmf ≤ length (now s)) × (0 < required mdmf (now s))
@@ -300,9 +281,9 @@ fn laid_outcome(s: &[u8], mdmf: bool, bounds: [u64; 8]) -> u32
         header::total(s, mdmf),
         header::segment_size(s, mdmf),
         header::data_length(s, mdmf),
-        bounds::part(s, bounds, chain_part(mdmf)),
-        bounds::part(s, bounds, tree_part(mdmf)),
-        bounds::part(s, bounds, share_data_part(mdmf)),
+        bounds::part(s, bounds, parts::chain_part(mdmf)),
+        bounds::part(s, bounds, parts::tree_part(mdmf)),
+        bounds::part(s, bounds, parts::share_data_part(mdmf)),
     )
 }
 

@@ -1,6 +1,6 @@
 -- The edge tables of the writers: closed cases by computing, and one over any key of its length. Assumes nothing.
 use mathlib.Core.Path.{_≡_, refl}
-use mathlib.Core.Bool.{Bool, true, false}
+use mathlib.Core.Bool.{true, false}
 use mathlib.Core.List.{List, map}
 use Prim.Native.Nat.{ℕ, _≤_}
 use native.Mathlib.Omega.{arith}
@@ -14,7 +14,8 @@ use Rattle.octets.specs.Rows.{firstRow}
 use Rattle.octets.specs.Strings.{join}
 use Rattle.octets.proofs.ListLaws.{both, by-refuting}
 use Rattle.share_format.specs.Bounds.{inOrder, packed}
-use Rattle.share_format.specs.Header.{hashSize, saltSize, digitsOf, eachFits, toldOf, numberFields, offsetFields}
+use Rattle.share_format.specs.Header.{hashSize, saltSize, headerSize, digitsOf, eachFits, toldOf, numberFields}
+use Rattle.share_format.specs.Header.{offsetFields}
 use Rattle.share_format.specs.Header.{offsetsFit}
 use Rattle.share_format.specs.Nodes.{depthFrom, depth, power, nodesFrom, nodesOk}
 use Rattle.share_format.specs.Parts.{Sdmf, sdmf, partList, leastMultiple, placesOf, shareLength, encode}
@@ -28,8 +29,8 @@ use Rattle.share_writing.specs.Edges.{segmented, into, resultOf, refused
 use Rattle.share_writing.proofs.WritingLaws.{rows-25}
 
 -- The signature stands behind the key.
-narrow : (x : Sdmf) → 4294967189 ≤ length (x .key) → offsetsFit false (packed 107 (map length (partList (sdmf x)))) ≡ true
-    → ⊥
+narrow : (x : Sdmf) → 4294967189 ≤ length (x .key)
+    → offsetsFit false (packed (headerSize false) (map length (partList (sdmf x)))) ≡ true → ⊥
 unfolding partList packed toldOf
 narrow x key h = let o = offset-facts false _ h .0 in omega (arith, o)
 
@@ -39,7 +40,7 @@ far-offset : (x : Sdmf) (n : ℕ) → length (x .root) ≡ hashSize → length (
 unfolding sizesOk segmentFits segmentOk boundsFit writeOutcome writeRows shareLength
 far-offset x n hr hs room coding segment key =
     let m : ℕ = leastMultiple (x .required) (x .dataLength) in
-    let bs : List ℕ = packed 107 (map length (partList (sdmf x))) in
+    let bs : List ℕ = packed (headerSize false) (map length (partList (sdmf x))) in
     rows-25 false (x .sequence) (x .root) (x .iv) (x .required) (x .total) m (x .dataLength)
     (map length (partList (sdmf x))) (x .chain) (x .tree) (x .shareData) n
     (rw (eq-eqb _ _ hr, eq-eqb _ _ hs)) room coding (rw (fits-64 m segment, eq-eqb m m refl))

@@ -2,16 +2,15 @@
 -- written as it was, for both editions. Assumes nothing.
 use mathlib.Core.Path.{_≡_, refl, sym, ap, _∙_}
 use mathlib.Core.Bool.{Bool, true, false}
-use mathlib.Core.List.{List, [], _∷_, _++_, map, append-assoc}
+use mathlib.Core.List.{List, [], _∷_, _++_, append-assoc}
 use Prim.Native.Nat.{ℕ, suc, _+_, _-_, _≤_, _<_}
 use native.Mathlib.Nat.{sub-self}
 use native.Mathlib.Omega.{arith}
 use lib.Dec.{eqb}
-use lib.ListN.{length, take, drop, getD, length-drop, length-take, take-append-drop}
+use lib.ListN.{length, take, drop, getD, length-drop}
 use lib.Seq.{drop-cons, length-take-le}
 use borrow.Author.Tests.{eqb-true, eqb-false, eq-eqb, ltb-false, not-false}
-use Rattle.octets.specs.Facts.{Each, Octets}
-use Rattle.octets.specs.Lists.{sum}
+use Rattle.octets.specs.Facts.{Octets}
 use Rattle.octets.specs.Numbers.{numberAt, digits}
 use Rattle.octets.specs.Rows.{firstRow}
 use Rattle.octets.specs.Strings.{join}
@@ -19,21 +18,22 @@ use Rattle.octets.proofs.ListLaws.{both, field-then}
 use Rattle.octets.proofs.NumberLaws.{digits-at, numberAt-below}
 use Rattle.octets.proofs.RowLaws.{clear}
 use Rattle.octets.proofs.StringLaws.{octets-take, octets-drop}
-use Rattle.share_format.specs.Bounds.{inOrder, partOf, packed}
+use Rattle.share_format.specs.Bounds.{inOrder, partOf}
 use Rattle.share_format.specs.Claims.{OctetShare}
 use Rattle.share_format.specs.Header.{Edition, versionOf, version, editionOf, sequenceAt, rootAt, ivAt, requiredAt}
-use Rattle.share_format.specs.Header.{totalAt, segmentAt, lengthAt, hashSize, ivSize, numberSize, offsetSizes, offsetsAt}
+use Rattle.share_format.specs.Header.{totalAt, segmentAt, lengthAt, hashSize, ivSize, numberSize, offsetSizes}
+use Rattle.share_format.specs.Header.{offsetsAt}
 use Rattle.share_format.specs.Header.{headerSize, sequence, root, iv, required, total, segmentSize, dataLength}
 use Rattle.share_format.specs.Header.{numbersFrom, offsetsOf, boundsOf, toldOf, numberFields, offsetFields, offsetsFit}
 use Rattle.share_format.specs.Parts.{Share, editionIn, sequenceIn, rootIn, ivIn, requiredIn, totalIn, segmentIn}
-use Rattle.share_format.specs.Parts.{lengthIn, chainIn, treeIn, shareDataIn, partList, readBy, shareOf, leastMultiple}
+use Rattle.share_format.specs.Parts.{lengthIn, chainIn, treeIn, shareDataIn, partList, readBy, shareOf}
 use Rattle.share_format.specs.Parts.{placesOf, shareLength, encode, chainPart, treePart, shareDataPart}
 use Rattle.share_format.specs.Rows.{codingOk, segmentOk, leastSizes, placedOk, ordered, headRows, laidRows, bodyRows}
-use Rattle.share_format.specs.Rows.{shareOutcome, contentRows}
+use Rattle.share_format.specs.Rows.{shareOutcome}
 use Rattle.share_format.proofs.BoundLaws.{lastOf}
 use Rattle.share_format.proofs.HeaderLaws.{fits-64, offsets-fit, sizes-sum, numbers-again, numbers-fit}
 use Rattle.share_format.proofs.PackedLaws.{partsBetween, between-packed, between-join}
-use Rattle.share_format.proofs.RowLaws.{order-facts, placed-tail, placed-order, placed-last, outcome-ordered}
+use Rattle.share_format.proofs.RowLaws.{order-facts, placed-tail, placed-order, placed-last}
 use Rattle.share_writing.specs.Claims.{Writable}
 use Rattle.share_writing.specs.Writing.{sizesOk, segmentFits, boundsFit}
 use Rattle.share_writing.proofs.WritingLaws.{share-joined, done, writable}

@@ -7,8 +7,7 @@ use Prim.Native.Nat.{ℕ, _+_, _%_, _≤_, _<_}
 use native.Mathlib.Omega.{arith}
 use lib.Dec.{eqb, ltb}
 use lib.ListN.{length, getD}
-use borrow.Author.Tests.{eqb-true, eqb-false, eq-eqb, ne-eqb, ltb-true, ltb-false, lt-ltb, le-ltb, not-false}
-use Rattle.octets.specs.Facts.{Each, Fits64}
+use borrow.Author.Tests.{eqb-true, eqb-false, eq-eqb, ne-eqb, ltb-false, lt-ltb, le-ltb, not-false}
 use Rattle.octets.specs.Lists.{sum}
 use Rattle.octets.specs.Moves.{put}
 use Rattle.octets.specs.Rows.{firstRow}
@@ -17,16 +16,15 @@ use Rattle.octets.proofs.ListLaws.{both}
 use Rattle.octets.proofs.RowLaws.{clear}
 use Rattle.octets.proofs.StringLaws.{length-join}
 use Rattle.share_format.specs.Bounds.{packed}
-use Rattle.share_format.specs.Facts.{EachLeast}
 use Rattle.share_format.specs.Header.{Edition, hashSize, ivSize, headerSize, numberFields, offsetFields, offsetsFit}
-use Rattle.share_format.specs.Parts.{Share, sdmf, mdmf, leastMultiple, editionIn, sequenceIn, rootIn, ivIn, requiredIn}
+use Rattle.share_format.specs.Parts.{Share, sdmf, mdmf, editionIn, sequenceIn, rootIn, ivIn, requiredIn}
 use Rattle.share_format.specs.Parts.{totalIn, segmentIn, lengthIn, keyIn, signatureIn, privateKeyIn, chainIn, treeIn}
 use Rattle.share_format.specs.Parts.{shareDataIn, partList, placesOf, shareLength, encode}
 use Rattle.share_format.specs.Rows.{codingOk, segmentOk, leastSizes, placedOk, chainOk, treeOk, blocksOk, contentRows}
 use Rattle.share_format.proofs.HeaderLaws.{offset-facts, offsets-fit, fits-64, within-64, narrow-facts}
 use Rattle.share_format.proofs.NodeLaws.{nodes-facts, nodes-true}
-use Rattle.share_format.proofs.PackedLaws.{packed-head, packed-facts, packed-order, packed-last, packed-fits}
-use Rattle.share_format.proofs.RowLaws.{coding-facts, coding-true, placed-false, placed-rest, segment-some, segment-none}
+use Rattle.share_format.proofs.PackedLaws.{EachLeast, packed-head, packed-facts, packed-order, packed-last}
+use Rattle.share_format.proofs.RowLaws.{coding-facts, coding-true, placed-rest, segment-some, segment-none}
 use Rattle.share_writing.specs.Writing.{sizesOk, segmentFits, boundsFit, rowsOf, writeRows, writeOutcome}
 use Rattle.share_writing.specs.Writing.{writtenAnswer, spaceAfter}
 use Rattle.share_writing.specs.Claims.{SegmentRight, TreeRight, BlocksRight, Writable}

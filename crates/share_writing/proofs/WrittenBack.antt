@@ -18,15 +18,16 @@ use Rattle.octets.proofs.NumberLaws.{length-digits, number-digits, octets-digit
 use Rattle.octets.proofs.StringLaws.{octets-append, octets-join}
 use Rattle.share_format.specs.Bounds.{partOf, packed}
 use Rattle.share_format.specs.Claims.{ArgumentsFit, OctetShare}
-use Rattle.share_format.specs.Facts.{FitEach}
+use Rattle.share_format.specs.Claims.{FitEach}
 use Rattle.share_format.specs.Header.{Edition, versionOf, version, editionOf, sequenceAt, rootAt, ivAt, requiredAt}
-use Rattle.share_format.specs.Header.{totalAt, segmentAt, lengthAt, hashSize, ivSize, numberSize, offsetSizes, offsetsAt}
+use Rattle.share_format.specs.Header.{totalAt, segmentAt, lengthAt, hashSize, ivSize, numberSize, offsetSizes}
+use Rattle.share_format.specs.Header.{offsetsAt}
 use Rattle.share_format.specs.Header.{headerSize, sequence, root, iv, required, total, segmentSize, dataLength}
 use Rattle.share_format.specs.Header.{offsetsOf, boundsOf, toldOf, numberFields, offsetFields, offsetsFit}
 use Rattle.share_format.specs.Parts.{Share, sdmf, mdmf, editionIn, sequenceIn, rootIn, ivIn, requiredIn, totalIn}
 use Rattle.share_format.specs.Parts.{segmentIn, lengthIn, chainIn, treeIn, shareDataIn, chainPart, treePart}
 use Rattle.share_format.specs.Parts.{shareDataPart, partList, readBy, shareOf, placesOf, shareLength, encode}
-use Rattle.share_format.specs.Rows.{segmentOk, placedOk, ordered, contentRows, headRows, laidRows, bodyRows, shareOutcome}
+use Rattle.share_format.specs.Rows.{segmentOk, placedOk, ordered, headRows, laidRows, bodyRows, shareOutcome}
 use Rattle.share_format.proofs.HeaderLaws.{length-numbers, length-offsets, numbers-back, octets-each}
 use Rattle.share_format.proofs.PackedLaws.{packed-part}
 use Rattle.share_format.proofs.RowLaws.{least-multiple, outcome-body, coding-true}
@@ -373,5 +374,6 @@ octets-encode x o =
     let b : List ℕ = join (offsetFields (editionIn x) (placesOf x)) in
     let c : List ℕ = join (partList x) in
     octets-append a (b ++ c) (octets-join (numbers x) (octets-numbers x o))
-    (octets-append b c (octets-join (offsetFields (editionIn x) (placesOf x)) (octets-offsets (editionIn x) (placesOf x)))
+    (octets-append b c
+    (octets-join (offsetFields (editionIn x) (placesOf x)) (octets-offsets (editionIn x) (placesOf x)))
     (octets-join (partList x) (o .parts)))

@@ -5,7 +5,7 @@ use mathlib.Core.List.{List, [], _∷_}
 use mathlib.Core.Logic.{_↔_, _⊎_}
 use lib.ListN.{length, take, drop}
 use Rattle.octets.specs.Facts.{Each, Distinct, Among, Fits64}
-use Rattle.share_format.specs.Facts.{FitEach}
+use Rattle.share_format.specs.Claims.{FitEach}
 use Rattle.share_format.specs.Header.{hashSize, ivSize, offsetSizes, toldOf}
 use Rattle.share_format.specs.Nodes.{depth, power, chainEntrySize, nodesFrom}
 use Rattle.share_format.specs.Parts.{Share, sdmf, mdmf, leastMultiple, editionIn, sequenceIn, rootIn, ivIn, requiredIn}
@@ -33,18 +33,18 @@ pub record Demand1Writer (x : Share) (d : List ℕ) : Type 0 where
   pub behind : drop (writtenAnswer x (length d) .length) (spaceAfter x d) ≡ drop (writtenAnswer x (length d) .length) d
   pub space-length : length (spaceAfter x d) ≡ length d
 
--- 24. SDMF's segment size follows, so nothing is asked of it but that it fits. MDMF's is a multiple of k, and 0 only
--- without data.
+-- 24: SDMF's segment size follows, so nothing is asked of it but that it fits; MDMF's is a multiple of k, and 0 only
+-- without data (S54).
 abbrev pub SegmentRight : Share → Type 0
 SegmentRight (sdmf x) = Unit {0}
 SegmentRight (mdmf x) = (x .segmentSize % x .required ≡ 0) × (x .segmentSize ≡ 0 → x .dataLength ≡ 0)
 
--- 27. SDMF: one hash; without data, one or none. MDMF: the tree over the segments.
+-- 27: SDMF, one hash; without data, one or none (S27). MDMF, the tree over the segments (S56).
 abbrev pub TreeRight : Share → Type 0
 TreeRight (sdmf x) = (length (x .tree) ≡ hashSize) ⊎ ((x .dataLength ≡ 0) × (length (x .tree) ≡ 0))
 TreeRight (mdmf x) = length (x .tree) ≡ treeSize (segments (x .dataLength) (x .segmentSize))
 
--- 28. SDMF: one block. MDMF: a salt and a block for each segment.
+-- 28: SDMF, one block (S28). MDMF, a salt and a block for each segment (S57).
 abbrev pub BlocksRight : Share → Type 0
 BlocksRight (sdmf x) = length (x .shareData) ≡ leastMultiple (x .required) (x .dataLength) / x .required
 BlocksRight (mdmf x) =

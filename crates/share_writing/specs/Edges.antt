@@ -1,5 +1,5 @@
--- Numbers at the edges of the share writers (docs/RULES.md, P21 to P29 of SDMF, P45 to P54 of MDMF): a table of what each
--- answers, and what one share is written as.
+-- Numbers at the edges of the share writers (docs/RULES.md, P21 to P29 of SDMF, P45 to P54 of MDMF): a table of what
+-- each answers, and what one share is written as.
 use Prim.Native.Nat.{ℕ, _≤_}
 use mathlib.Core.Path.{_≡_}
 use mathlib.Core.Bool.{true}
@@ -17,8 +17,8 @@ use Rattle.share_writing.specs.Writing.{sdmfWith, mdmfWith, writtenAnswe
 abbrev pub chainWith : List ℕ → List ℕ
 chainWith nodes = join (map (λ v. digits 2 v ++ replicate 32 4) nodes)
 
--- An SDMF share by the lengths of R and IV, sequence number, k, N, data length, the lengths of key and signature, the node
--- numbers, the lengths of tree, share data and private key.
+-- An SDMF share by the lengths of R and IV, sequence number, k, N, data length, the lengths of key and signature, the
+-- node numbers, the lengths of tree, share data and private key.
 abbrev pub shareBy :
     (root iv sequence required total dataLength key signature : ℕ) (nodes : List ℕ) (tree shareData privateKey : ℕ)
     → Share
@@ -55,8 +55,8 @@ mdmfBy root sequence required segment dataLength privateKey nodes signature key 
     mdmfWith sequence (replicate root 1) required 10 segment dataLength (replicate privateKey 8) (chainWith nodes)
     (replicate signature 5) (replicate key 3) (replicate spare 9) (replicate shareData 7) (replicate tree 6)
 
--- The MDMF share of 405 bytes (P45): two segments of 6 bytes for 10 bytes of data, k = 3. With other coding and data; with
--- other parts.
+-- The MDMF share of 405 bytes (P45): two segments of 6 bytes for 10 bytes of data, k = 3. With other coding and data;
+-- with other parts.
 abbrev pub segmented : (required segment dataLength shareData tree : ℕ) → Share
 segmented required segment dataLength shareData tree =
     mdmfBy 32 1 required segment dataLength 5 nodes 4 3 2 shareData tree
@@ -178,13 +178,14 @@ mdmfCases =
     ∷ into (segmented 0 6 10 36 96) 405
     ∷ into (segmented 11 11 10 36 96) 405
     ∷ into (segmented 10 10 10 17 32) 405
-    -- P47: a segment size that is no multiple of k, and no key beside it; none, with data; none, and any, without; the
-    -- largest, of k = 3 and of k = 2
+    -- P47: a segment size that is no multiple of k, and no key beside it; none, with data; none, and one that is a
+    -- multiple and one that is not, without; the largest, of k = 3 and of k = 2
     ∷ into (segmented 3 7 10 36 96) 405
     ∷ into (mdmfBy 32 1 3 7 10 5 nodes 4 0 2 36 96) 405
     ∷ into (segmented 3 0 10 36 96) 405
     ∷ into (segmented 3 0 0 0 0) 405
     ∷ into (segmented 3 6 0 0 0) 405
+    ∷ into (segmented 3 7 0 0 0) 405
     ∷ into (segmented 3 18446744073709551615 10 20 32) 405
     ∷ into (segmented 2 18446744073709551615 10 20 32) 405
     -- P48: no private key; no signature; no key, and a node number too high beside it; no spare bytes
@@ -209,8 +210,8 @@ mdmfCases =
     ∷ into (segmented 3 6 24 72 480) 900
     ∷ into (segmented 3 6 25 89 224) 900
     ∷ into (segmented 3 6 25 89 480) 900
-    -- P51: share data of a byte less; more; without salts; with a salt for each byte; data of 1, k - 1, k and k + 1 bytes;
-    -- of 2^64 - 1 bytes in one segment
+    -- P51: share data of a byte less; more; without salts; with 16 times the sum; data of 1, k - 1, k and k + 1
+    -- bytes; of 2^64 - 1 bytes in one segment
     ∷ into (segmented 3 6 10 35 96) 405
     ∷ into (segmented 3 6 10 37 96) 406
     ∷ into (segmented 3 6 10 4 96) 405
@@ -233,7 +234,7 @@ abbrev pub mdmfResults : List Result
 mdmfResults =
     done 405 ∷ refused 7 ∷ refused 3 ∷ refused 3 ∷ refused 7
     ∷ refused 23 ∷ refused 23 ∷ done 322
-    ∷ refused 24 ∷ refused 24 ∷ refused 24 ∷ done 273 ∷ done 273 ∷ done 325 ∷ refused 24
+    ∷ refused 24 ∷ refused 24 ∷ refused 24 ∷ done 273 ∷ done 273 ∷ refused 24 ∷ done 325 ∷ refused 24
     ∷ refused 25 ∷ refused 25 ∷ refused 25 ∷ done 403
     ∷ refused 26 ∷ done 405 ∷ refused 26 ∷ refused 26
     ∷ refused 27 ∷ done 323 ∷ refused 27 ∷ refused 27 ∷ refused 27
@@ -243,8 +244,8 @@ mdmfResults =
     ∷ refused 29 ∷ done 405
     ∷ done 126 ∷ done 127 ∷ refused 26 ∷ []
 
--- The bytes of P45's share, from top to bottom: version and sequence number; R; k, N, segment size 6 and data length 10; the
--- offsets 123, 128, 264, 268, 271, 273, 309 and 405; the parts.
+-- The bytes of P45's share, from top to bottom: version and sequence number; R; k, N, segment size 6 and data length
+-- 10; the offsets 123, 128, 264, 268, 271, 273, 309 and 405; the parts.
 abbrev pub mdmfBytes : List ℕ
 mdmfBytes =
     (1 ∷ 0 ∷ 0 ∷ 0 ∷ 0 ∷ 0 ∷ 0 ∷ 0 ∷ 1 ∷ [])

@@ -1,4 +1,4 @@
--- The SDMF share writer (docs/RULES.md, S40, S42 to S44, D1, D8, P21 to P29).
+-- The share writers (docs/RULES.md, S40, S42 to S44, S53, S58, D1, D8, P21 to P29, P45 to P54).
 pub mod Writing
 pub mod Facts
 pub mod Claims

@@ -5,7 +5,7 @@ use share_format::header::HASH_SIZE;
 use share_format::rows;
 use share_format::rows::Multiple;
 ghost use mathlib.Core.Path.{_≡_};
-ghost use mathlib.Core.Bool.{true, _&&_};
+ghost use mathlib.Core.Bool.{true};
 ghost use mathlib.Core.List.{[], _∷_, _++_};
 ghost use Prim.Native.Nat.{_+_, _≤_, _<_};
 ghost use lib.Dec.{leb};
@@ -105,8 +105,8 @@ fn refused(number: u32) -> Verdict
     }
 }
 
-// The lowest number that applies, or 0. The parts are known by their sizes, in the order in which they lie, and the three
-// that the rows look into.
+// The lowest number that applies, or 0. The parts are known by their sizes, in the order in which they lie, and the
+// three that the rows look into.
 fn verdict_of(
     mdmf: bool,
     sequence: u64,

@@ -7,7 +7,8 @@ use Rattle.share_format.specs.Bounds.{inOrder, partOf}
 use Rattle.share_format.specs.Header.{editionOf, numbersFrom, offsetsOf, boundsOf}
 use Rattle.share_format.specs.Nodes.{depthFrom, depth, power, nodesFrom, nodesOk}
 use Rattle.share_format.specs.Parts.{leastMultiple}
-use Rattle.share_format.specs.Rows.{codingOk, segmentOk, placedOk, ordered, chainOk, roundedUp, segments, treeSize, treeOk}
+use Rattle.share_format.specs.Rows.{codingOk, segmentOk, placedOk, ordered, chainOk, roundedUp, segments, treeSize}
+use Rattle.share_format.specs.Rows.{treeOk}
 use Rattle.share_format.specs.Rows.{blocksSize, blocksOk, contentRows, headRows, laidRows, bodyRows, shareOutcome}
 use Rattle.shares.specs.Share.{boundsAt, checkedAt, checkedOf}
 use Rattle.shares.specs.Edges.{CheckEdgesHold}

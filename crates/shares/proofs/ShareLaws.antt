@@ -1,5 +1,5 @@
 -- What the checker answers, and that the parts it tells lie inside the caller's slice. Assumes nothing.
-use mathlib.Core.Path.{_≡_, refl, sym, ap, _∙_}
+use mathlib.Core.Path.{_≡_, refl, sym, _∙_}
 use mathlib.Core.Bool.{Bool, true, false, cond}
 use mathlib.Core.List.{List, [], _∷_, map}
 use Prim.Native.Nat.{ℕ, zero, suc, _+_, _-_, _≤_, _<_}
@@ -11,8 +11,8 @@ use borrow.Author.Tests.{eqb-true, eqb-false, eq-eqb, ne-eqb, leb-true, leb-fals
 use Rattle.container.specs.Data.{lentOf, dataLent}
 use Rattle.container.proofs.DataLaws.{lends, lent-bytes, none-lent}
 use Rattle.share_format.specs.Bounds.{partOf}
-use Rattle.share_format.specs.Facts.{PartInside, PartsInside}
-use Rattle.share_format.specs.Header.{Edition, byEdition, versionOf, editionOf, headerSize, numbersFrom, offsetsOf}
+use Rattle.share_format.specs.Facts.{PartsInside}
+use Rattle.share_format.specs.Header.{Edition, byEdition, versionOf, editionOf, numbersFrom, offsetsOf}
 use Rattle.share_format.specs.Header.{boundsOf}
 use Rattle.share_format.specs.Rows.{shareOutcome}
 use Rattle.share_format.proofs.RowLaws.{bounds-inside, outcome-ordered}
@@ -26,7 +26,8 @@ pub checked-refused : (base n : ℕ) (s : List ℕ) → n ≡ shareOutcome s →
 unfolding checkedAt
 checked-refused base n s e h = rw (← e, ne-eqb _ _ h)
 
-pub checked-zero : (base v : ℕ) (s bs : List ℕ) → shareOutcome s ≡ 0 → v ≡ versionOf (editionOf s) → bs ≡ boundsAt base s
+pub checked-zero : (base v : ℕ) (s bs : List ℕ) → shareOutcome s ≡ 0 → v ≡ versionOf (editionOf s)
+    → bs ≡ boundsAt base s
     → _≡_ {A = Checked} (record { number = 0; edition = v; bounds = bs }) (checkedAt base s)
 unfolding checkedAt
 checked-zero base v s bs e k b = rw (e, k, b)

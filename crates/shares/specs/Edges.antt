@@ -1,5 +1,5 @@
--- Numbers at the edges of the share check (docs/RULES.md, P55 to P57): lengths and versions, MDMF's offsets, and bytes of
--- one edition with the other's version.
+-- Numbers at the edges of the share check (docs/RULES.md, P55 to P57): lengths and versions, MDMF's offsets, and bytes
+-- of one edition with the other's version.
 use Prim.Native.Nat.{ℕ, _+_, _*_}
 use mathlib.Core.Path.{_≡_}
 use mathlib.Core.List.{List, [], _∷_, _++_, map}
@@ -7,7 +7,6 @@ use lib.ListN.{replicate, take}
 use Rattle.octets.specs.Moves.{put}
 use Rattle.octets.specs.Numbers.{digits}
 use Rattle.share_format.specs.Header.{farOffsetSize, offsetsAt}
-use Rattle.share_format.specs.Parts.{Share, encode}
 use Rattle.share_writing.specs.Edges.{bytes, mdmfBytes}
 use Rattle.shares.specs.Share.{checkedOf}
 use mathlib.Core.Bool.{true}
@@ -27,7 +26,7 @@ answerTo s = record { number = checkedOf s .number; edition = checkedOf s .editi
 abbrev pub versioned : ℕ → ℕ → List ℕ
 versioned n version = take n (version ∷ replicate n 0)
 
--- P45's share with another offset i, counted from 0; offset i as it is, 1 lower or 1 higher is written out in the table.
+-- P45's share with another offset i, counted from 0.
 abbrev pub offsetIs : ℕ → ℕ → List ℕ
 offsetIs i v = put (offsetsAt true + farOffsetSize * i) (digits farOffsetSize v) mdmfBytes
 
@@ -46,9 +45,9 @@ checkedCases =
     ∷ versioned 123 1
     ∷ versioned 123 2
     ∷ versioned 123 255
-    -- P56: P45's share; private key 122 and 124; chain 123, where the private key is; signature 127, before the chain; key
-    -- 264, where the signature is; the key's end 268, where the key is; share data 270; tree 272; end 404 and 406; a byte
-    -- behind the end
+    -- P56: P45's share; private key 122 and 124; chain 123, where the private key is; signature 127, before the chain;
+    -- key 264, where the signature is; the key's end 268, where the key is; share data 270; tree 272; end 404, 406 and
+    -- 2^64 - 1; a byte behind the end
     ∷ mdmfBytes
     ∷ offsetIs 0 122
     ∷ offsetIs 0 124
@@ -62,7 +61,7 @@ checkedCases =
     ∷ offsetIs 7 406
     ∷ offsetIs 7 18446744073709551615
     ∷ (mdmfBytes ++ (0 ∷ []))
-    -- P57: P11's share with version 1; P45's with version 0, and with 2
+    -- P57: P11's share; with version 1; P45's with version 0, and with 2
     ∷ bytes
     ∷ put 0 (1 ∷ []) bytes
     ∷ put 0 (0 ∷ []) mdmfBytes
@@ -79,7 +78,7 @@ checkedResults =
 pub record CheckEdgesHold : Type 0 where
   -- P55 to P57
   pub table : map answerTo checkedCases ≡ checkedResults
-  -- P56: the boundaries of P45's share, and of P11's
+  -- P56, P57: the boundaries of P45's share, and of P11's
   pub mdmf-bounds :
       checkedOf mdmfBytes .bounds ≡ 123 ∷ 128 ∷ 264 ∷ 268 ∷ 271 ∷ 273 ∷ 309 ∷ 405 ∷ []
   pub sdmf-bounds : checkedOf bytes .bounds ≡ 107 ∷ 399 ∷ 655 ∷ 791 ∷ 823 ∷ 827 ∷ 2043 ∷ 2043 ∷ []

@@ -41,8 +41,8 @@ partAt i s = getD (checkedOf s .bounds) i 0
 unfoldable pub handedBack : List ℕ → Share
 handedBack s = readBy (editionOf s) (checkedOf s .bounds) s
 
--- A share in a container is judged after it, so 1 or 2 comes first, and names SDMF; bounds count from its first byte (S37
--- to S39, S52).
+-- A share in a container is judged after it, so 1 or 2 comes first, and names SDMF; bounds count from its first byte
+-- (S37 to S39, S52).
 unfoldable pub checkedContainer : List ℕ → Checked
 checkedContainer c =
     cond (eqb (lentOf c .number) 0) (checkedAt (lentOf c .from) (dataLent c)) (refused false (lentOf c .number))

@@ -1,8 +1,10 @@
 // The checker: outcomes 0 and 21 to 29, the edition, and the parts as parts of the caller's slice.
 use share_format::bounds;
 use share_format::header;
+use share_format::parts;
 use share_format::rows;
 ghost use mathlib.Core.Path.{_≡_};
+ghost use mathlib.Core.Bool.{true};
 ghost use Prim.Native.Nat.{_+_, _≤_, _<_};
 ghost use lib.Dec.{eqb};
 ghost use lib.ListN.{length};
@@ -15,13 +17,8 @@ ghost use Rattle.shares.specs.Share.{refused, boundsAt, checkedAt, check
 ghost use Rattle.shares.specs.Share.{checkedContainer, containerPart, containerPartAt};
 ghost use Rattle.octets.specs.Facts.{Fits64};
 
-// SDMF and MDMF, by their version bytes.
-pub const SDMF: u32 = 0;
-
-pub const MDMF: u32 = 1;
-
-// The outcome's number, the edition, and the boundaries of the parts (all 0 on a refusal). SDMF has six parts, so that its
-// last two boundaries are the same.
+// The outcome's number, the edition, and the boundaries of the parts (all 0 on a refusal). SDMF has six parts, so that
+// its last two boundaries are the same.
 #[repr(C)]
 pub struct Checked {
     pub number: u32,
@@ -29,18 +26,12 @@ pub struct Checked {
     pub bounds: [u64; 8],
 }
 
-fn edition(mdmf: bool) -> u32
-    ensures { λ r. ⌜ r ≡ versionOf mdmf ⌝ }
-{
-    if mdmf { MDMF } else { SDMF }
-}
-
 fn refused(mdmf: bool, number: u32) -> Checked
     ensures { λ r. ⌜ r ≡ refused mdmf number ⌝ }
 {
     Checked {
         number,
-        edition: edition(mdmf),
+        edition: header::version_of(mdmf) as u32,
         bounds: [0; 8],
     }
 }
@@ -75,7 +66,7 @@ fn checked_at(s: &[u8], base: u64) -> Checked
     }
     Checked {
         number: 0,
-        edition: edition(mdmf),
+        edition: header::version_of(mdmf) as u32,
         bounds: bounds_at(s, mdmf, base),
     }
 }
@@ -101,9 +92,13 @@ pub fn check_container(c: &[u8]) -> Checked
 
 // The number of a part, by its number in each edition.
 fn part_number(edition: u32, in_sdmf: usize, in_mdmf: usize) -> usize
-    ensures { λ r. ⌜ r ≡ byEdition (eqb edition 1) in_sdmf in_mdmf ⌝ }
+    ensures { λ r. ⌜ r ≡ byEdition (eqb edition (versionOf true)) in_sdmf in_mdmf ⌝ }
 {
-    if edition == MDMF { in_mdmf } else { in_sdmf }
+    if edition == header::MDMF_VERSION as u32 {
+        in_mdmf
+    } else {
+        in_sdmf
+    }
 }
 
 // A part, by its number in each edition.
@@ -127,7 +122,7 @@ pub fn key(s: &[u8]) -> &[u8]
     ensures place { λ r. ⌜ r .ptr
         ≡ beyond ((s .entry) .ptr) (partAt (keyPart (editionOf (now (s .entry)))) (now (s .entry))) ⌝ }
 {
-    part(s, 0, 3)
+    part(s, parts::SDMF_KEY, parts::MDMF_KEY)
 }
 
 pub fn signature(s: &[u8]) -> &[u8]
@@ -135,7 +130,7 @@ pub fn signature(s: &[u8]) -> &[u8]
     ensures place { λ r. ⌜ r .ptr
         ≡ beyond ((s .entry) .ptr) (partAt (signaturePart (editionOf (now (s .entry)))) (now (s .entry))) ⌝ }
 {
-    part(s, 1, 2)
+    part(s, parts::SDMF_SIGNATURE, parts::MDMF_SIGNATURE)
 }
 
 pub fn chain(s: &[u8]) -> &[u8]
@@ -143,7 +138,7 @@ pub fn chain(s: &[u8]) -> &[u8]
     ensures place { λ r. ⌜ r .ptr
         ≡ beyond ((s .entry) .ptr) (partAt (chainPart (editionOf (now (s .entry)))) (now (s .entry))) ⌝ }
 {
-    part(s, 2, 1)
+    part(s, parts::SDMF_CHAIN, parts::MDMF_CHAIN)
 }
 
 pub fn tree(s: &[u8]) -> &[u8]
@@ -151,7 +146,7 @@ pub fn tree(s: &[u8]) -> &[u8]
     ensures place { λ r. ⌜ r .ptr
         ≡ beyond ((s .entry) .ptr) (partAt (treePart (editionOf (now (s .entry)))) (now (s .entry))) ⌝ }
 {
-    part(s, 3, 6)
+    part(s, parts::SDMF_TREE, parts::MDMF_TREE)
 }
 
 pub fn share_data(s: &[u8]) -> &[u8]
@@ -159,7 +154,7 @@ pub fn share_data(s: &[u8]) -> &[u8]
     ensures place { λ r. ⌜ r .ptr
         ≡ beyond ((s .entry) .ptr) (partAt (shareDataPart (editionOf (now (s .entry)))) (now (s .entry))) ⌝ }
 {
-    part(s, 4, 5)
+    part(s, parts::SDMF_SHARE_DATA, parts::MDMF_SHARE_DATA)
 }
 
 pub fn private_key(s: &[u8]) -> &[u8]
@@ -167,7 +162,7 @@ pub fn private_key(s: &[u8]) -> &[u8]
     ensures place { λ r. ⌜ r .ptr
         ≡ beyond ((s .entry) .ptr) (partAt (privateKeyPart (editionOf (now (s .entry)))) (now (s .entry))) ⌝ }
 {
-    part(s, 5, 0)
+    part(s, parts::SDMF_PRIVATE_KEY, parts::MDMF_PRIVATE_KEY)
 }
 
 pub fn spare(s: &[u8]) -> &[u8]
@@ -175,7 +170,7 @@ pub fn spare(s: &[u8]) -> &[u8]
     ensures place { λ r. ⌜ r .ptr
         ≡ beyond ((s .entry) .ptr) (partAt (sparePart (editionOf (now (s .entry)))) (now (s .entry))) ⌝ }
 {
-    part(s, 6, 4)
+    part(s, parts::SDMF_SPARE, parts::MDMF_SPARE)
 }
 
 fn container_part(c: &[u8], in_sdmf: usize, in_mdmf: usize) -> &[u8]
@@ -193,64 +188,71 @@ fn container_part(c: &[u8], in_sdmf: usize, in_mdmf: usize) -> &[u8]
 
 // The same of the share in a container, as parts of the container's slice.
 pub fn container_key(c: &[u8]) -> &[u8]
-    ensures bytes { λ r. ⌜ now r ≡ containerPart (keyPart (editionOf (dataLent (now (c .entry))))) (now (c .entry)) ⌝ }
+    ensures bytes { λ r. ⌜ now r
+        ≡ containerPart (keyPart (editionOf (dataLent (now (c .entry))))) (now (c .entry)) ⌝ }
     ensures place { λ r. ⌜ r .ptr
         ≡ beyond ((c .entry) .ptr)
         (containerPartAt (keyPart (editionOf (dataLent (now (c .entry))))) (now (c .entry))) ⌝ }
 {
-    container_part(c, 0, 3)
+    container_part(c, parts::SDMF_KEY, parts::MDMF_KEY)
 }
 
 pub fn container_signature(c: &[u8]) -> &[u8]
-    ensures bytes { λ r. ⌜ now r ≡ containerPart (signaturePart (editionOf (dataLent (now (c .entry))))) (now (c .entry)) ⌝ }
+    ensures bytes { λ r. ⌜ now r
+        ≡ containerPart (signaturePart (editionOf (dataLent (now (c .entry))))) (now (c .entry)) ⌝ }
     ensures place { λ r. ⌜ r .ptr
         ≡ beyond ((c .entry) .ptr)
         (containerPartAt (signaturePart (editionOf (dataLent (now (c .entry))))) (now (c .entry))) ⌝ }
 {
-    container_part(c, 1, 2)
+    container_part(c, parts::SDMF_SIGNATURE, parts::MDMF_SIGNATURE)
 }
 
 pub fn container_chain(c: &[u8]) -> &[u8]
-    ensures bytes { λ r. ⌜ now r ≡ containerPart (chainPart (editionOf (dataLent (now (c .entry))))) (now (c .entry)) ⌝ }
+    ensures bytes { λ r. ⌜ now r
+        ≡ containerPart (chainPart (editionOf (dataLent (now (c .entry))))) (now (c .entry)) ⌝ }
     ensures place { λ r. ⌜ r .ptr
         ≡ beyond ((c .entry) .ptr)
         (containerPartAt (chainPart (editionOf (dataLent (now (c .entry))))) (now (c .entry))) ⌝ }
 {
-    container_part(c, 2, 1)
+    container_part(c, parts::SDMF_CHAIN, parts::MDMF_CHAIN)
 }
 
 pub fn container_tree(c: &[u8]) -> &[u8]
-    ensures bytes { λ r. ⌜ now r ≡ containerPart (treePart (editionOf (dataLent (now (c .entry))))) (now (c .entry)) ⌝ }
+    ensures bytes { λ r. ⌜ now r
+        ≡ containerPart (treePart (editionOf (dataLent (now (c .entry))))) (now (c .entry)) ⌝ }
     ensures place { λ r. ⌜ r .ptr
         ≡ beyond ((c .entry) .ptr)
         (containerPartAt (treePart (editionOf (dataLent (now (c .entry))))) (now (c .entry))) ⌝ }
 {
-    container_part(c, 3, 6)
+    container_part(c, parts::SDMF_TREE, parts::MDMF_TREE)
 }
 
 pub fn container_share_data(c: &[u8]) -> &[u8]
-    ensures bytes { λ r. ⌜ now r ≡ containerPart (shareDataPart (editionOf (dataLent (now (c .entry))))) (now (c .entry)) ⌝ }
+    ensures bytes { λ r. ⌜ now r
+        ≡ containerPart (shareDataPart (editionOf (dataLent (now (c .entry))))) (now (c .entry)) ⌝ }
     ensures place { λ r. ⌜ r .ptr
         ≡ beyond ((c .entry) .ptr)
         (containerPartAt (shareDataPart (editionOf (dataLent (now (c .entry))))) (now (c .entry))) ⌝ }
 {
-    container_part(c, 4, 5)
+    container_part(c, parts::SDMF_SHARE_DATA, parts::MDMF_SHARE_DATA)
 }
 
 pub fn container_private_key(c: &[u8]) -> &[u8]
-    ensures bytes { λ r. ⌜ now r ≡ containerPart (privateKeyPart (editionOf (dataLent (now (c .entry))))) (now (c .entry)) ⌝ }
+    ensures bytes { λ r. ⌜ now r
+        ≡ containerPart (privateKeyPart (editionOf (dataLent (now (c .entry))))) (now (c .entry)) ⌝ }
     ensures place { λ r. ⌜ r .ptr
         ≡ beyond ((c .entry) .ptr)
         (containerPartAt (privateKeyPart (editionOf (dataLent (now (c .entry))))) (now (c .entry))) ⌝ }
 {
-    container_part(c, 5, 0)
+    container_part(c, parts::SDMF_PRIVATE_KEY, parts::MDMF_PRIVATE_KEY)
 }
 
 pub fn container_spare(c: &[u8]) -> &[u8]
-    ensures bytes { λ r. ⌜ now r ≡ containerPart (sparePart (editionOf (dataLent (now (c .entry))))) (now (c .entry)) ⌝ }
+    ensures bytes { λ r. ⌜ now r
+        ≡ containerPart (sparePart (editionOf (dataLent (now (c .entry))))) (now (c .entry)) ⌝ }
     ensures place { λ r. ⌜ r .ptr
         ≡ beyond ((c .entry) .ptr)
         (containerPartAt (sparePart (editionOf (dataLent (now (c .entry))))) (now (c .entry))) ⌝ }
 {
-    container_part(c, 6, 4)
+    container_part(c, parts::SDMF_SPARE, parts::MDMF_SPARE)
 }

@@ -5,10 +5,6 @@ use Rattle.share_writing.specs.Writing.{boundsFit}
 use borrow.Author.Needs.{needs}
 use Rattle.share_writing.proofs.bounds_fit.Statement.{statement}
 use Rattle.share_writing.proofs.bounds_fit.Tie as tie
-use Rattle.share_writing.proofs.bounds_fit.Reads as reads
-use Rattle.share_writing.proofs.bounds_fit.Lts as lts
-use Rattle.share_format.proofs.header.offsets_fit.Reads as offsets-fit-reads
-use Rattle.share_format.proofs.rows.placed_ok.Reads as placed-ok-reads
 
 placed-ok-requires : tie.Need-placed-ok-requires
 placed-ok-requires c κs = search needs

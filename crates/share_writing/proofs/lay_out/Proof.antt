@@ -12,10 +12,6 @@ use Rattle.share_format.proofs.HeaderLaws.{length-numbers, length-offsets}
 use borrow.Author.Needs.{needs}
 use Rattle.share_writing.proofs.lay_out.Statement.{statement}
 use Rattle.share_writing.proofs.lay_out.Tie as tie
-use Rattle.share_writing.proofs.lay_out.Reads as reads
-use Rattle.share_writing.proofs.lay_out.Lts as lts
-use Rattle.share_format.proofs.header.put_header.Reads as put-header-reads
-use Rattle.share_writing.proofs.put_parts.Reads as put-parts-reads
 
 put-header-requires : tie.Need-put-header-requires
 put-header-requires c κs = search needs

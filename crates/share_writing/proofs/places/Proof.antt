@@ -5,8 +5,6 @@ use Rattle.share_writing.proofs.WritingLaws.{sum-seven, packed-seven}
 use borrow.Author.Needs.{needs}
 use Rattle.share_writing.proofs.places.Statement.{statement}
 use Rattle.share_writing.proofs.places.Tie as tie
-use Rattle.share_writing.proofs.places.Reads as reads
-use Rattle.share_writing.proofs.places.Lts as lts
 
 array-read-second : tie.Need-array-read-second
 array-read-second c = search needs

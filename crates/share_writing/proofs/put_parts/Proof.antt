@@ -3,13 +3,9 @@ use mathlib.Core.Path.{refl}
 use native.Mathlib.Omega.{arith}
 use Rattle.octets.proofs.MoveLaws.{stored-none, stored-more, stored-at}
 use lib.ListN.{length, getD}
-use Prim.Native.Nat.{_+_}
 use borrow.Author.Needs.{needs}
 use Rattle.share_writing.proofs.put_parts.Statement.{statement}
 use Rattle.share_writing.proofs.put_parts.Tie as tie
-use Rattle.share_writing.proofs.put_parts.Reads as reads
-use Rattle.share_writing.proofs.put_parts.Lts as lts
-use Rattle.octets.proofs.moves.copy_part.Reads as copy-part-reads
 
 array-read-copy-part : tie.Need-array-read-copy-part
 array-read-copy-part c = search needs

@@ -1,7 +1,6 @@
 -- MDMF's is given and judged; SDMF's is the least multiple, which is right if it fits.
 use native.Mathlib.Omega.{arith}
-use mathlib.Core.Path.{_≡_, refl, sym, _∙_}
-use mathlib.Core.Bool.{true, false}
+use mathlib.Core.Path.{refl, sym, _∙_}
 use borrow.Author.Tests.{eq-eqb}
 use Rattle.octets.proofs.ListLaws.{and-true}
 use Rattle.octets.specs.Numbers.{fits}
@@ -13,10 +12,6 @@ use Rattle.share_writing.specs.Writing.{segmentFits}
 use borrow.Author.Needs.{needs}
 use Rattle.share_writing.proofs.segment_of.Statement.{statement}
 use Rattle.share_writing.proofs.segment_of.Tie as tie
-use Rattle.share_writing.proofs.segment_of.Reads as reads
-use Rattle.share_writing.proofs.segment_of.Lts as lts
-use Rattle.share_format.proofs.rows.least_multiple.Reads as least-multiple-reads
-use Rattle.share_format.proofs.rows.segment_ok.Reads as segment-ok-reads
 
 segment-ok-requires : tie.Need-segment-ok-requires
 segment-ok-requires c κs = search needs

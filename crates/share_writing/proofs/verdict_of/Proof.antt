@@ -1,12 +1,10 @@
 -- Each refusal is the row whose test holds once those before it are known not to.
 use mathlib.Core.Path.{_≡_, sym, _∙_}
 use mathlib.Core.Bool.{true}
-use mathlib.Core.List.{List}
-use Prim.Native.Nat.{ℕ, _+_, _≤_}
+use Prim.Native.Nat.{_+_, _≤_}
 use native.Mathlib.Omega.{arith}
 use borrow.Author.Tests.{eq-eqb, ne-eqb, leb-true, leb-false, not-true, not-false}
 use Rattle.octets.specs.Lists.{sum}
-use Rattle.octets.specs.Rows.{firstRow}
 use Rattle.share_format.specs.Bounds.{packed}
 use Rattle.share_format.specs.Header.{headerSize}
 use Rattle.share_format.specs.Rows.{codingOk}
@@ -16,23 +14,13 @@ use Rattle.share_format.specs.Rows.{segmentOk}
 use Rattle.share_format.specs.Header.{numberSize}
 use Rattle.octets.specs.Numbers.{fits}
 use Rattle.share_format.proofs.RowLaws.{coding-facts}
-use Rattle.share_writing.specs.Facts.{segmentFor, Judges}
-use Rattle.share_writing.specs.Writing.{sizesOk, segmentFits, boundsFit, rowsOf}
-use Rattle.share_writing.proofs.WritingLaws.{rows-3, rows-7, rows-23, rows-24, rows-25, rows-rest, judges-refused}
+use Rattle.share_writing.specs.Facts.{segmentFor}
+use Rattle.share_writing.specs.Writing.{sizesOk, segmentFits}
+use Rattle.share_writing.proofs.WritingLaws.{rows-3, rows-7, rows-23, rows-24, rows-25, rows-rest}
+use Rattle.share_writing.proofs.WritingLaws.{judges-refused}
 use borrow.Author.Needs.{needs}
 use Rattle.share_writing.proofs.verdict_of.Statement.{statement}
 use Rattle.share_writing.proofs.verdict_of.Tie as tie
-use Rattle.share_writing.proofs.verdict_of.Reads as reads
-use Rattle.share_writing.proofs.verdict_of.Lts as lts
-use Rattle.share_format.proofs.header.iv_size.Reads as iv-size-reads
-use Rattle.share_format.proofs.header.size.Reads as size-reads
-use Rattle.share_format.proofs.rows.coding_ok.Reads as coding-ok-reads
-use Rattle.share_format.proofs.rows.content_outcome.Reads as content-outcome-reads
-use Rattle.share_writing.proofs.bounds_fit.Reads as bounds-fit-reads
-use Rattle.share_writing.proofs.has_room.Reads as has-room-reads
-use Rattle.share_writing.proofs.places.Reads as places-reads
-use Rattle.share_writing.proofs.refused.Reads as refused-reads
-use Rattle.share_writing.proofs.segment_of.Reads as segment-of-reads
 
 -- What stands once a test has been passed.
 sized : (c : tie.Else2)
@@ -44,7 +32,8 @@ sized c =
     rw (eq-eqb _ _ (i .before .if1 .left), eq-eqb _ _ (c .if2 .left ∙ i .iv-size .ensures))
 
 roomy : (c : tie.Else3)
-    → let a = c .before .before .before .before .before .before .before .before .before .before .before .before .args in
+    → let q = c .before .before .before .before .before .before .before .before .before in
+    let a = q .before .before .before .args in
     headerSize (a .mdmf) + sum (a .t9) ≤ a .space
 roomy c =
     let h = c .before in
@@ -52,24 +41,28 @@ roomy c =
     leb-true _ _ (rw (h .before .before .size .ensures) at e)
 
 coded : (c : tie.Else4)
-    → let a = c .before .before .before .before .before .before .before .before .before .before .before .before .before .before .args in
+    → let q = c .before .before .before .before .before .before .before .before .before in
+    let a = q .before .before .before .before .before .args in
     codingOk (a .required) (a .total) ≡ true
 coded c = sym (c .before .coding-ok .ensures) ∙ not-false _ (c .if4 .left)
 
 fitted : (c : tie.Else5)
-    → let a = c .before .before .before .before .before .before .before .before .before .before .before .before .before .before .before .before .before .args in
+    → let q = c .before .before .before .before .before .before .before .before .before in
+    let a = q .before .before .before .before .before .before .before .before .args in
     segmentFits (a .mdmf) (segmentFor (a .mdmf) (a .given) (a .required) (a .data-length)) (a .required)
     (a .data-length)
     ≡ true
 fitted c = sym (c .before .before .segment-of .ensures .0) ∙ not-false _ (c .if5 .left)
 
 sized-segment : (c : tie.Else5)
-    → let a = c .before .before .before .before .before .before .before .before .before .before .before .before .before .before .before .before .before .args in
+    → let q = c .before .before .before .before .before .before .before .before .before in
+    let a = q .before .before .before .before .before .before .before .before .args in
     c .before .before .segment-of .result .value ≡ segmentFor (a .mdmf) (a .given) (a .required) (a .data-length)
 sized-segment c = c .before .before .segment-of .ensures .1 (not-false _ (c .if5 .left))
 
 laid : (c : tie.After-places)
-    → let a = c .before .before .before .before .before .before .before .before .before .before .before .before .before .before .before .before .before .before .args in
+    → let q = c .before .before .before .before .before .before .before .before .before in
+    let a = q .before .before .before .before .before .before .before .before .before .args in
     c .places .result ≡ packed (headerSize (a .mdmf)) (a .t9)
 laid c =
     let r = c .before .before .before .before .before .before in
@@ -118,7 +111,8 @@ returns-3 c =
     let s = h .before .before .before in
     let e = sym (h .has-room .ensures) ∙ not-true _ (t .if3 .taken) in
     let k = leb-false _ _ (rw (h .before .before .size .ensures) at e) in
-    judges-refused _ _ _ _ _ _ _ _ _ _ _ _ _ _ 7 (c .refused3 .ensures) (rows-7 _ _ _ _ _ _ _ _ _ _ _ _ _ (sized s) k) (omega arith)
+    judges-refused _ _ _ _ _ _ _ _ _ _ _ _ _ _ 7 (c .refused3 .ensures)
+    (rows-7 _ _ _ _ _ _ _ _ _ _ _ _ _ (sized s) k) (omega arith)
 
 coding-ok-requires : tie.Need-coding-ok-requires
 coding-ok-requires c κs = search needs
@@ -132,7 +126,8 @@ returns-4 c =
     let r = t .before .before in
     let s = r .before .before .before .before in
     let e = sym (t .before .coding-ok .ensures) ∙ not-true _ (t .if4 .taken) in
-    judges-refused _ _ _ _ _ _ _ _ _ _ _ _ _ _ 23 (c .refused4 .ensures) (rows-23 _ _ _ _ _ _ _ _ _ _ _ _ _ (sized s) (roomy r) e) (omega arith)
+    judges-refused _ _ _ _ _ _ _ _ _ _ _ _ _ _ 23 (c .refused4 .ensures)
+    (rows-23 _ _ _ _ _ _ _ _ _ _ _ _ _ (sized s) (roomy r) e) (omega arith)
 
 segment-of-requires : tie.Need-segment-of-requires
 segment-of-requires c κs = coding-facts _ _ (coded c) .0
@@ -154,13 +149,15 @@ returns-5 c =
 places-requires : tie.Need-places-requires
 places-requires c κs =
     let r = c .before .before .before .before .before in
-    let s = r .before .before .before .before .before .before .before .before .before .before .before .before in
+    let half = r .before .before .before .before .before .before .before .before in
+    let s = half .before .before .before .before in
     (s .pre, rw (r .before .before .before .size .ensures) (omega (arith, roomy r)))
 
 bounds-fit-requires : tie.Need-bounds-fit-requires
 bounds-fit-requires c κs =
     let r = c .before .before .before .before .before .before in
-    let s = r .before .before .before .before .before .before .before .before .before .before .before .before in
+    let half = r .before .before .before .before .before .before .before .before in
+    let s = half .before .before .before .before in
     rw (laid c) (packed-fits _ (s .args .t9) (omega (arith, roomy r)))
 
 refused-requires-6 : tie.Need-refused-requires-6
@@ -182,7 +179,8 @@ content-outcome-requires : tie.Need-content-outcome-requires
 unfolding segmentFits
 content-outcome-requires c κs =
     let q = c .before .before .before in
-    let a = q .before .before .before .before .before .before .before .before .before .before .before .before .before .before .before .before .before .args in
+    let half = q .before .before .before .before .before .before .before .before in
+    let a = half .before .before .before .before .before .before .before .before .before .args in
     let g = segmentFor (a .mdmf) (a .given) (a .required) (a .data-length) in
     let k = coded (q .before .before .before) in
     let f = both (fits numberSize g) (segmentOk (a .mdmf) g (a .required) (a .data-length)) (fitted q) in

@@ -1,15 +1,12 @@
 -- A number other than 0 leaves the space; on 0 nothing refuses.
-use mathlib.Core.Path.{_≡_, sym, _∙_}
+use mathlib.Core.Path.{sym, _∙_}
 use Rattle.share_format.specs.Parts.{Share, partList, placesOf}
 use Rattle.share_writing.specs.Writing.{sdmfWith, writeRows, writeOutcome}
-use Rattle.share_writing.proofs.WritingLaws.{places-end, places-seven, answer-refused, answer-done, layable, encoded}
+use Rattle.share_writing.proofs.WritingLaws.{places-end, places-seven, answer-refused, answer-done, layable}
+use Rattle.share_writing.proofs.WritingLaws.{encoded}
 use borrow.Author.Needs.{needs}
 use Rattle.share_writing.proofs.write_sdmf.Statement.{statement}
 use Rattle.share_writing.proofs.write_sdmf.Tie as tie
-use Rattle.share_writing.proofs.write_sdmf.Reads as reads
-use Rattle.share_writing.proofs.write_sdmf.Lts as lts
-use Rattle.share_writing.proofs.lay_out.Reads as lay-out-reads
-use Rattle.share_writing.proofs.verdict_of.Reads as verdict-of-reads
 
 -- The share that the arguments name.
 abbrev given : tie.Else1 → Share

@@ -1,14 +1,12 @@
 -- What the parts from the first on say is what those that are left say; the measure is how many are left.
 use mathlib.Core.Path.{_≡_, refl, sym, _∙_}
-use Prim.Native.Nat.{ℕ, _+_, _-_, _≤_}
+use Prim.Native.Nat.{_+_, _-_, _≤_}
 use native.Mathlib.Omega.{arith}
 use lib.ListN.{length, drop, getD}
 use Rattle.share_format.specs.Bounds.{inOrder}
 use Rattle.share_format.proofs.BoundLaws.{order-more, order-less, order-end}
 use Rattle.share_format.proofs.bounds.in_order.Statement.{statement}
 use Rattle.share_format.proofs.bounds.in_order.Tie as tie
-use Rattle.share_format.proofs.bounds.in_order.Reads as reads
-use Rattle.share_format.proofs.bounds.in_order.Lts as lts
 
 abbrev Inv-loop : tie.InvT-loop
 Inv-loop bounds least i₀ i =

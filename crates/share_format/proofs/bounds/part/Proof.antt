@@ -4,8 +4,6 @@ use Rattle.share_format.proofs.BoundLaws.{part-is}
 use borrow.Author.Needs.{needs}
 use Rattle.share_format.proofs.bounds.part.Statement.{statement}
 use Rattle.share_format.proofs.bounds.part.Tie as tie
-use Rattle.share_format.proofs.bounds.part.Reads as reads
-use Rattle.share_format.proofs.bounds.part.Lts as lts
 
 mul-a : tie.Need-mul-a
 mul-a c = search needs

@@ -1,11 +1,7 @@
 -- Each edition has its own.
-use mathlib.Core.Path.{_≡_, _∙_}
+use mathlib.Core.Path.{_∙_}
 use Rattle.share_format.proofs.header.bounds.Statement.{statement}
 use Rattle.share_format.proofs.header.bounds.Tie as tie
-use Rattle.share_format.proofs.header.bounds.Reads as reads
-use Rattle.share_format.proofs.header.bounds.Lts as lts
-use Rattle.share_format.proofs.header.mdmf_bounds.Reads as mdmf-bounds-reads
-use Rattle.share_format.proofs.header.sdmf_bounds.Reads as sdmf-bounds-reads
 
 mdmf-bounds-requires : tie.Need-mdmf-bounds-requires
 mdmf-bounds-requires c κs = rw (c .if1 .taken) at (c .before .before .pre)

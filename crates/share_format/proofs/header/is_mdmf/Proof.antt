@@ -6,8 +6,6 @@ use Rattle.share_format.specs.Header.{editionOf}
 use borrow.Author.Needs.{needs}
 use Rattle.share_format.proofs.header.is_mdmf.Statement.{statement}
 use Rattle.share_format.proofs.header.is_mdmf.Tie as tie
-use Rattle.share_format.proofs.header.is_mdmf.Reads as reads
-use Rattle.share_format.proofs.header.is_mdmf.Lts as lts
 
 returns : tie.Need-returns
 unfolding editionOf

@@ -3,9 +3,6 @@ use Rattle.share_format.specs.Header.{numbersFrom, offsetsOf, boundsOf}
 use borrow.Author.Needs.{needs}
 use Rattle.share_format.proofs.header.mdmf_bounds.Statement.{statement}
 use Rattle.share_format.proofs.header.mdmf_bounds.Tie as tie
-use Rattle.share_format.proofs.header.mdmf_bounds.Reads as reads
-use Rattle.share_format.proofs.header.mdmf_bounds.Lts as lts
-use Rattle.octets.proofs.numbers.u64_at.Reads as u64-at-reads
 
 u64-at-requires : tie.Need-u64-at-requires
 u64-at-requires c κs = search needs

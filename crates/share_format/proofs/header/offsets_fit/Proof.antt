@@ -4,8 +4,6 @@ use Rattle.share_format.proofs.HeaderLaws.{fits-all, fits-four}
 use borrow.Author.Needs.{needs}
 use Rattle.share_format.proofs.header.offsets_fit.Statement.{statement}
 use Rattle.share_format.proofs.header.offsets_fit.Tie as tie
-use Rattle.share_format.proofs.header.offsets_fit.Reads as reads
-use Rattle.share_format.proofs.header.offsets_fit.Lts as lts
 
 returns : tie.Need-returns
 returns c = rw (c .if1 .taken, fits-all _ (c .before .pre))

@@ -8,7 +8,6 @@ use Rattle.octets.specs.Strings.{join}
 use Rattle.octets.proofs.MoveLaws.{put-put}
 use Rattle.share_format.specs.Header.{offsetsAt, numberFields, offsetFields}
 use Rattle.share_format.proofs.HeaderLaws.{length-numbers}
-use native.Mathlib.Omega.{arith}
 use borrow.Author.Needs.{needs}
 use Rattle.share_format.proofs.header.put_header.Statement.{statement}
 use Rattle.share_format.proofs.header.put_header.Tie as tie
@@ -32,11 +31,12 @@ returns c =
     join (numberFields (a .mdmf) (a .sequence) (a .root .now) (a .iv .now) (a .required) (a .total) (a .segment)
     (a .data-length)) in
     let l : length x ≡ offsetsAt (a .mdmf) =
-    length-numbers (a .mdmf) (a .sequence) (a .root .now) (a .iv .now) (a .required) (a .total) (a .segment) (a .data-length)
-    (s .pre .1) (s .pre .2) in
+    length-numbers (a .mdmf) (a .sequence) (a .root .now) (a .iv .now) (a .required) (a .total) (a .segment)
+    (a .data-length) (s .pre .1) (s .pre .2) in
     o .put-offsets .ensures
     ∙ rw (n .put-numbers .ensures)
-    (put-put 0 (offsetsAt (a .mdmf)) x (join (offsetFields (a .mdmf) (a .bounds))) (a .d .now) (omega arith) (omega (arith, l)))
+    (put-put 0 (offsetsAt (a .mdmf)) x (join (offsetFields (a .mdmf) (a .bounds))) (a .d .now) (omega arith)
+    (omega (arith, l)))
 
 pub put-header-spec : {M : Type 1} → statement M
 put-header-spec =

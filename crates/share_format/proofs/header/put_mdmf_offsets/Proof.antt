@@ -7,9 +7,6 @@ use Rattle.share_format.specs.Header.{offsetsAt, farOffsetSize, digitsOf
 use borrow.Author.Needs.{needs}
 use Rattle.share_format.proofs.header.put_mdmf_offsets.Statement.{statement}
 use Rattle.share_format.proofs.header.put_mdmf_offsets.Tie as tie
-use Rattle.share_format.proofs.header.put_mdmf_offsets.Reads as reads
-use Rattle.share_format.proofs.header.put_mdmf_offsets.Lts as lts
-use Rattle.octets.proofs.numbers.put_u64.Reads as put-u64-reads
 
 array-read-put-u64 : tie.Need-array-read-put-u64
 array-read-put-u64 c = search needs

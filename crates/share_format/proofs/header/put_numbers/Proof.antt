@@ -9,12 +9,6 @@ use Rattle.share_format.specs.Header.{ivAt, numberSize, hashSize, number
 use borrow.Author.Needs.{needs}
 use Rattle.share_format.proofs.header.put_numbers.Statement.{statement}
 use Rattle.share_format.proofs.header.put_numbers.Tie as tie
-use Rattle.share_format.proofs.header.put_numbers.Reads as reads
-use Rattle.share_format.proofs.header.put_numbers.Lts as lts
-use Rattle.octets.proofs.moves.copy_part.Reads as copy-part-reads
-use Rattle.octets.proofs.numbers.put_u64.Reads as put-u64-reads
-use Rattle.octets.proofs.numbers.put_u8.Reads as put-u8-reads
-use Rattle.share_format.proofs.header.version_of.Reads as version-of-reads
 
 add-at : tie.Need-add-at
 add-at c = search needs

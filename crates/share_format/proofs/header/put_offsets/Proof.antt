@@ -1,12 +1,8 @@
 -- Each edition has its own.
-use mathlib.Core.Path.{_≡_, _∙_}
+use mathlib.Core.Path.{_∙_}
 use borrow.Author.Needs.{needs}
 use Rattle.share_format.proofs.header.put_offsets.Statement.{statement}
 use Rattle.share_format.proofs.header.put_offsets.Tie as tie
-use Rattle.share_format.proofs.header.put_offsets.Reads as reads
-use Rattle.share_format.proofs.header.put_offsets.Lts as lts
-use Rattle.share_format.proofs.header.put_mdmf_offsets.Reads as put-mdmf-offsets-reads
-use Rattle.share_format.proofs.header.put_sdmf_offsets.Reads as put-sdmf-offsets-reads
 
 put-mdmf-offsets-requires : tie.Need-put-mdmf-offsets-requires
 put-mdmf-offsets-requires c κs = rw (c .before .if1 .taken) at (c .before .before .before .pre .0)

@@ -1,8 +1,6 @@
 -- Each edition has its own.
 use Rattle.share_format.proofs.header.required_at.Statement.{statement}
 use Rattle.share_format.proofs.header.required_at.Tie as tie
-use Rattle.share_format.proofs.header.required_at.Reads as reads
-use Rattle.share_format.proofs.header.required_at.Lts as lts
 
 returns : tie.Need-returns
 returns c = rw (c .if1 .taken)

@@ -1,17 +1,12 @@
 -- The number at its place.
-use mathlib.Core.Path.{_≡_, ap, _∙_}
-use Prim.Native.Nat.{ℕ, _+_}
+use mathlib.Core.Path.{ap, _∙_}
+use Prim.Native.Nat.{ℕ}
 use native.Mathlib.Omega.{arith}
 use Rattle.octets.specs.Numbers.{numberAt}
-use Rattle.share_format.specs.Header.{numberSize, segmentAt}
-use mathlib.Core.Path.{_∙_}
+use Rattle.share_format.specs.Header.{numberSize}
 use borrow.Author.Needs.{needs}
 use Rattle.share_format.proofs.header.segment_size.Statement.{statement}
 use Rattle.share_format.proofs.header.segment_size.Tie as tie
-use Rattle.share_format.proofs.header.segment_size.Reads as reads
-use Rattle.share_format.proofs.header.segment_size.Lts as lts
-use Rattle.octets.proofs.numbers.u64_at.Reads as u64-at-reads
-use Rattle.share_format.proofs.header.required_at.Reads as required-at-reads
 
 required-at-requires : tie.Need-required-at-requires
 required-at-requires c κs = search needs

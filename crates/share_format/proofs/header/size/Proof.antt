@@ -1,8 +1,6 @@
 -- Each edition has its own.
 use Rattle.share_format.proofs.header.size.Statement.{statement}
 use Rattle.share_format.proofs.header.size.Tie as tie
-use Rattle.share_format.proofs.header.size.Reads as reads
-use Rattle.share_format.proofs.header.size.Lts as lts
 
 returns : tie.Need-returns
 returns c = rw (c .if1 .taken)

@@ -2,9 +2,6 @@
 use borrow.Author.Needs.{needs}
 use Rattle.share_format.proofs.header.total.Statement.{statement}
 use Rattle.share_format.proofs.header.total.Tie as tie
-use Rattle.share_format.proofs.header.total.Reads as reads
-use Rattle.share_format.proofs.header.total.Lts as lts
-use Rattle.share_format.proofs.header.required_at.Reads as required-at-reads
 
 required-at-requires : tie.Need-required-at-requires
 required-at-requires c κs = search needs

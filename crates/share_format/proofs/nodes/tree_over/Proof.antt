@@ -4,7 +4,7 @@ use mathlib.Core.Path.{_≡_, refl, sym, ap, _∙_}
 use Prim.Native.Nat.{ℕ, _*_, _≤_, _-_}
 use native.Mathlib.Omega.{arith}
 use Rattle.share_format.specs.Nodes.{depthFrom, depth, power}
-use Rattle.share_format.proofs.NodeLaws.{power-next, power-above, depth-stop, depth-turn}
+use Rattle.share_format.proofs.NodeLaws.{power-next, power-above, depth-stop, depth-turn, sixty-two}
 use Rattle.share_format.proofs.nodes.tree_over.Statement.{statement}
 use Rattle.share_format.proofs.nodes.tree_over.Tie as tie
 
@@ -22,12 +22,12 @@ loop-holds c =
     (omega arith, refl, ap (λ (m : ℕ). depthFrom m 0 1 n) k)
 
 mul-leaves : tie.Need-mul-leaves Inv-loop μ-loop
-mul-leaves c = omega arith
+mul-leaves c = omega (arith, sixty-two)
 
 add-depth : tie.Need-add-depth Inv-loop μ-loop
 add-depth c =
     let l = c .before .loop in
-    omega (arith, power-above (l .depth))
+    omega (arith, sixty-two, power-above (l .depth))
 
 loop-less : tie.Need-loop-less Inv-loop μ-loop
 loop-less c = omega arith

@@ -4,10 +4,6 @@ use Rattle.share_format.specs.Rows.{blocksOk}
 use borrow.Author.Needs.{needs}
 use Rattle.share_format.proofs.rows.blocks_ok.Statement.{statement}
 use Rattle.share_format.proofs.rows.blocks_ok.Tie as tie
-use Rattle.share_format.proofs.rows.blocks_ok.Reads as reads
-use Rattle.share_format.proofs.rows.blocks_ok.Lts as lts
-use Rattle.share_format.proofs.rows.salted_ok.Reads as salted-ok-reads
-use Rattle.share_format.proofs.rows.segments.Reads as segments-reads
 
 segments-requires : tie.Need-segments-requires
 segments-requires c κs = c .before .before .pre .1 (c .if1 .taken)

@@ -3,18 +3,12 @@ use mathlib.Core.Path.{_≡_, sym, _∙_}
 use mathlib.Core.Bool.{true}
 use borrow.Author.Tests.{eq-eqb, ne-eqb, not-true, not-false}
 use Rattle.octets.specs.Rows.{firstRow}
-use Rattle.octets.proofs.ListLaws.{and-false}
 use Rattle.share_format.specs.Header.{boundsOf}
 use Rattle.share_format.specs.Rows.{placedOk, ordered, bodyRows}
 use Rattle.share_format.proofs.RowLaws.{placed-inside}
 use borrow.Author.Needs.{needs}
 use Rattle.share_format.proofs.rows.body_outcome.Statement.{statement}
 use Rattle.share_format.proofs.rows.body_outcome.Tie as tie
-use Rattle.share_format.proofs.rows.body_outcome.Reads as reads
-use Rattle.share_format.proofs.rows.body_outcome.Lts as lts
-use Rattle.share_format.proofs.header.bounds.Reads as bounds-reads
-use Rattle.share_format.proofs.rows.laid_outcome.Reads as laid-outcome-reads
-use Rattle.share_format.proofs.rows.placed_ok.Reads as placed-ok-reads
 
 placed : (c : tie.Else1)
     → let a = c .before .before .before .before .args in

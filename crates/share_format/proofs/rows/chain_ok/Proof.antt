@@ -3,7 +3,7 @@ use native.Mathlib.Omega.{arith}
 use Prim.Native.Nat.{_≤_}
 use borrow.Author.Tests.{eq-eqb, ne-eqb}
 use Rattle.share_format.specs.Rows.{chainOk}
-use Rattle.share_format.proofs.NodeLaws.{depth-within, eight}
+use Rattle.share_format.proofs.NodeLaws.{depth-within, eight, sixty-two}
 use borrow.Author.Needs.{needs}
 use Rattle.share_format.proofs.rows.chain_ok.Statement.{statement}
 use Rattle.share_format.proofs.rows.chain_ok.Tie as tie
@@ -18,7 +18,7 @@ small c =
     (omega arith, omega arith, omega (arith, eight))
 
 tree-over-requires : tie.Need-tree-over-requires
-tree-over-requires c κs = search needs
+tree-over-requires c κs = omega (arith, sixty-two)
 
 mul-if1 : tie.Need-mul-if1
 mul-if1 c = let h = small (c .before) in omega arith

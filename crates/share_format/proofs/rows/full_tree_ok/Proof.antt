@@ -1,13 +1,10 @@
 -- The tree's size, by its hashes.
-use mathlib.Core.Path.{sym, _∙_}
+use mathlib.Core.Path.{sym}
 use native.Mathlib.Omega.{arith}
 use Rattle.share_format.proofs.NodeLaws.{depth-within, sixty-two}
 use Rattle.share_format.proofs.RowLaws.{tree-none, tree-ragged, tree-few, tree-hashes}
 use Rattle.share_format.proofs.rows.full_tree_ok.Statement.{statement}
 use Rattle.share_format.proofs.rows.full_tree_ok.Tie as tie
-use Rattle.share_format.proofs.rows.full_tree_ok.Reads as reads
-use Rattle.share_format.proofs.rows.full_tree_ok.Lts as lts
-use Rattle.share_format.proofs.nodes.tree_over.Reads as tree-over-reads
 
 returns : tie.Need-returns
 returns c = tree-none _ _ (c .if1 .taken)
@@ -19,7 +16,7 @@ returns-3 : tie.Need-returns-3
 returns-3 c = sym (tree-few _ _ (c .before .before .if1 .left) (c .if3 .taken))
 
 tree-over-requires : tie.Need-tree-over-requires
-tree-over-requires c κs = omega arith
+tree-over-requires c κs = omega (arith, sixty-two)
 
 mul-result : tie.Need-mul-result
 mul-result c =

@@ -12,16 +12,6 @@ use Rattle.share_format.proofs.RowLaws.{coding-facts}
 use borrow.Author.Needs.{needs}
 use Rattle.share_format.proofs.rows.head_outcome.Statement.{statement}
 use Rattle.share_format.proofs.rows.head_outcome.Tie as tie
-use Rattle.share_format.proofs.rows.head_outcome.Reads as reads
-use Rattle.share_format.proofs.rows.head_outcome.Lts as lts
-use Rattle.share_format.proofs.header.data_length.Reads as data-length-reads
-use Rattle.share_format.proofs.header.required.Reads as required-reads
-use Rattle.share_format.proofs.header.segment_size.Reads as segment-size-reads
-use Rattle.share_format.proofs.header.size.Reads as size-reads
-use Rattle.share_format.proofs.header.total.Reads as total-reads
-use Rattle.share_format.proofs.header.version.Reads as version-reads
-use Rattle.share_format.proofs.rows.coding_ok.Reads as coding-ok-reads
-use Rattle.share_format.proofs.rows.segment_ok.Reads as segment-ok-reads
 
 -- What stands once a test has been passed.
 long : (c : tie.Else1)

@@ -11,18 +11,6 @@ use Rattle.share_format.specs.Rows.{laidRows}
 use borrow.Author.Needs.{needs}
 use Rattle.share_format.proofs.rows.laid_outcome.Statement.{statement}
 use Rattle.share_format.proofs.rows.laid_outcome.Tie as tie
-use Rattle.share_format.proofs.rows.laid_outcome.Reads as reads
-use Rattle.share_format.proofs.rows.laid_outcome.Lts as lts
-use Rattle.share_format.proofs.bounds.part.Reads as part-reads
-use Rattle.share_format.proofs.header.data_length.Reads as data-length-reads
-use Rattle.share_format.proofs.header.required.Reads as required-reads
-use Rattle.share_format.proofs.header.segment_size.Reads as segment-size-reads
-use Rattle.share_format.proofs.header.sequence.Reads as sequence-reads
-use Rattle.share_format.proofs.header.total.Reads as total-reads
-use Rattle.share_format.proofs.rows.chain_part.Reads as chain-part-reads
-use Rattle.share_format.proofs.rows.content_outcome.Reads as content-outcome-reads
-use Rattle.share_format.proofs.rows.share_data_part.Reads as share-data-part-reads
-use Rattle.share_format.proofs.rows.tree_part.Reads as tree-part-reads
 
 -- Each of the three is one of seven parts.
 chain-below : (e : Edition) → chainPart e < 7

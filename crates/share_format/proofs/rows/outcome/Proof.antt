@@ -1,6 +1,5 @@
 -- The first number that is not 0 wins, so the head is asked before the body.
 use mathlib.Core.Path.{_≡_, sym, _∙_}
-use Prim.Native.Nat.{ℕ}
 use Rattle.octets.specs.Rows.{firstRow}
 use Rattle.share_format.specs.Header.{editionOf}
 use Rattle.share_format.specs.Rows.{headRows}

@@ -1,14 +1,10 @@
 -- The first boundary, then the order of the others.
 use mathlib.Core.Bool.{true, false}
-use mathlib.Core.Path.{_≡_, sym, _∙_}
+use mathlib.Core.Path.{sym, _∙_}
 use Rattle.share_format.proofs.RowLaws.{placed-false, placed-rest}
 use borrow.Author.Needs.{needs}
 use Rattle.share_format.proofs.rows.placed_ok.Statement.{statement}
 use Rattle.share_format.proofs.rows.placed_ok.Tie as tie
-use Rattle.share_format.proofs.rows.placed_ok.Reads as reads
-use Rattle.share_format.proofs.rows.placed_ok.Lts as lts
-use Rattle.share_format.proofs.bounds.in_order.Reads as in-order-reads
-use Rattle.share_format.proofs.header.size.Reads as size-reads
 
 array-read-if1 : tie.Need-array-read-if1
 array-read-if1 c = search needs

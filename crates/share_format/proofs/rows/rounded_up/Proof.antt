@@ -7,8 +7,6 @@ use Rattle.share_format.proofs.RowLaws.{rounded-whole, rounded-more}
 use borrow.Author.Needs.{needs}
 use Rattle.share_format.proofs.rows.rounded_up.Statement.{statement}
 use Rattle.share_format.proofs.rows.rounded_up.Tie as tie
-use Rattle.share_format.proofs.rows.rounded_up.Reads as reads
-use Rattle.share_format.proofs.rows.rounded_up.Lts as lts
 
 rem-if1 : tie.Need-rem-if1
 rem-if1 c = search needs

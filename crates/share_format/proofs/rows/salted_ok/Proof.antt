@@ -4,9 +4,6 @@ use Rattle.share_format.proofs.RowLaws.{salts-few, salts-off}
 use borrow.Author.Needs.{needs}
 use Rattle.share_format.proofs.rows.salted_ok.Statement.{statement}
 use Rattle.share_format.proofs.rows.salted_ok.Tie as tie
-use Rattle.share_format.proofs.rows.salted_ok.Reads as reads
-use Rattle.share_format.proofs.rows.salted_ok.Lts as lts
-use Rattle.share_format.proofs.rows.rounded_up.Reads as rounded-up-reads
 
 div-if1 : tie.Need-div-if1
 div-if1 c = search needs

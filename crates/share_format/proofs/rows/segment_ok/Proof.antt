@@ -1,15 +1,11 @@
 -- The definition, case by case.
 use mathlib.Core.Path.{_∙_}
-use native.Mathlib.Omega.{arith}
 use borrow.Author.Tests.{eq-eqb, ne-eqb, not-true, not-false}
 use Rattle.share_format.specs.Rows.{segmentOk}
 use Rattle.share_format.proofs.RowLaws.{segment-none}
 use borrow.Author.Needs.{needs}
 use Rattle.share_format.proofs.rows.segment_ok.Statement.{statement}
 use Rattle.share_format.proofs.rows.segment_ok.Tie as tie
-use Rattle.share_format.proofs.rows.segment_ok.Reads as reads
-use Rattle.share_format.proofs.rows.segment_ok.Lts as lts
-use Rattle.share_format.proofs.rows.is_least_multiple.Reads as is-least-multiple-reads
 
 is-least-multiple-requires : tie.Need-is-least-multiple-requires
 is-least-multiple-requires c κs = search needs

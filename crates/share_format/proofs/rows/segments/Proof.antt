@@ -1,14 +1,10 @@
 -- None without data.
 use Rattle.share_format.proofs.RowLaws.{some-segment}
 use mathlib.Core.Path.{_∙_}
-use native.Mathlib.Omega.{arith}
 use borrow.Author.Tests.{eq-eqb, ne-eqb}
 use Rattle.share_format.specs.Rows.{segments}
 use Rattle.share_format.proofs.rows.segments.Statement.{statement}
 use Rattle.share_format.proofs.rows.segments.Tie as tie
-use Rattle.share_format.proofs.rows.segments.Reads as reads
-use Rattle.share_format.proofs.rows.segments.Lts as lts
-use Rattle.share_format.proofs.rows.rounded_up.Reads as rounded-up-reads
 
 rounded-up-requires : tie.Need-rounded-up-requires
 rounded-up-requires c κs =

@@ -4,11 +4,6 @@ use mathlib.Core.Path.{_∙_}
 use Rattle.share_format.specs.Rows.{treeOk}
 use Rattle.share_format.proofs.rows.tree_ok.Statement.{statement}
 use Rattle.share_format.proofs.rows.tree_ok.Tie as tie
-use Rattle.share_format.proofs.rows.tree_ok.Reads as reads
-use Rattle.share_format.proofs.rows.tree_ok.Lts as lts
-use Rattle.share_format.proofs.rows.full_tree_ok.Reads as full-tree-ok-reads
-use Rattle.share_format.proofs.rows.one_hash_ok.Reads as one-hash-ok-reads
-use Rattle.share_format.proofs.rows.segments.Reads as segments-reads
 
 segments-requires : tie.Need-segments-requires
 segments-requires c κs = c .before .before .pre (c .if1 .taken)

@@ -9,9 +9,6 @@ use Rattle.shares.proofs.ShareLaws.{bound-below, moved-listed}
 use borrow.Author.Needs.{needs}
 use Rattle.shares.proofs.share.bounds_at.Statement.{statement}
 use Rattle.shares.proofs.share.bounds_at.Tie as tie
-use Rattle.shares.proofs.share.bounds_at.Reads as reads
-use Rattle.shares.proofs.share.bounds_at.Lts as lts
-use Rattle.share_format.proofs.header.bounds.Reads as bounds-reads
 
 bounds-requires : tie.Need-bounds-requires
 bounds-requires c κs = search needs

@@ -1,18 +1,11 @@
 -- A number other than 0 refuses; on 0 the offsets are in order, so the boundaries may be formed.
-use mathlib.Core.Path.{_≡_, sym, ap, _∙_}
+use mathlib.Core.Path.{sym, ap, _∙_}
 use Rattle.share_format.proofs.RowLaws.{head-facts, outcome-ordered}
-use Rattle.share_format.specs.Header.{Edition, versionOf}
+use Rattle.share_format.specs.Header.{versionOf}
 use Rattle.shares.proofs.ShareLaws.{checked-refused, checked-zero, accepted-inside}
 use borrow.Author.Needs.{needs}
 use Rattle.shares.proofs.share.checked_at.Statement.{statement}
 use Rattle.shares.proofs.share.checked_at.Tie as tie
-use Rattle.shares.proofs.share.checked_at.Reads as reads
-use Rattle.shares.proofs.share.checked_at.Lts as lts
-use Rattle.share_format.proofs.header.is_mdmf.Reads as is-mdmf-reads
-use Rattle.share_format.proofs.rows.outcome.Reads as outcome-reads
-use Rattle.shares.proofs.share.bounds_at.Reads as bounds-at-reads
-use Rattle.shares.proofs.share.edition.Reads as edition-reads
-use Rattle.shares.proofs.share.refused.Reads as refused-reads
 
 is-mdmf-requires : tie.Need-is-mdmf-requires
 is-mdmf-requires c κs = search needs
@@ -29,8 +22,11 @@ returns c =
     c .refused .ensures
     ∙ rw (o .before .is-mdmf .ensures) (checked-refused _ _ _ (o .outcome .ensures) (c .before .if1 .taken))
 
-edition-requires : tie.Need-edition-requires
-edition-requires c κs = search needs
+version-of-requires : tie.Need-version-of-requires
+version-of-requires c κs = search needs
+
+cast-t7 : tie.Need-cast-t7
+cast-t7 c = search needs
 
 bounds-at-requires : tie.Need-bounds-at-requires
 bounds-at-requires c κs =
@@ -45,7 +41,7 @@ returns-2 c =
     let o = c .before .before .before in
     let e = o .before .is-mdmf .ensures in
     let z = sym (o .outcome .ensures) ∙ c .before .before .if1 .left in
-    checked-zero _ _ _ _ z (c .before .edition .ensures ∙ ap versionOf e) (c .bounds-at .ensures)
+    checked-zero _ _ _ _ z (c .before .version-of .ensures ∙ ap versionOf e) (c .bounds-at .ensures)
 
 pub checked-at-spec : {M : Type 1} → statement M
 checked-at-spec =
@@ -55,6 +51,7 @@ checked-at-spec =
     outcome-requires
     refused-requires
     returns
-    edition-requires
+    version-of-requires
+    cast-t7
     bounds-at-requires
     returns-2)

@@ -10,11 +10,6 @@ use Rattle.shares.specs.declared.share.Checked.{Checked}
 use borrow.Author.Needs.{needs}
 use Rattle.shares.proofs.share.container_part.Statement.{statement}
 use Rattle.shares.proofs.share.container_part.Tie as tie
-use Rattle.shares.proofs.share.container_part.Reads as reads
-use Rattle.shares.proofs.share.container_part.Lts as lts
-use Rattle.share_format.proofs.bounds.part.Reads as part-reads
-use Rattle.shares.proofs.share.check_container.Reads as check-container-reads
-use Rattle.shares.proofs.share.part_number.Reads as part-number-reads
 
 -- The part that the edition asks for.
 which : (c : tie.After-part-number)
@@ -24,7 +19,8 @@ which : (c : tie.After-part-number)
 which c =
     let k = c .before .before .check-container .ensures in
     let a = c .before .before .before .before .args in
-    numbered (editionOf (dataLent (a .c .now))) _ (a .in-sdmf) (a .in-mdmf) (ap (λ (x : Checked). x .edition) k ∙ container-edition (a .c .now))
+    numbered (editionOf (dataLent (a .c .now))) _ (a .in-sdmf) (a .in-mdmf)
+    (ap (λ (x : Checked). x .edition) k ∙ container-edition (a .c .now))
 
 check-container-requires : tie.Need-check-container-requires
 check-container-requires c κs = search needs

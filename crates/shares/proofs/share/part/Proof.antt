@@ -9,11 +9,6 @@ use Rattle.shares.specs.declared.share.Checked.{Checked}
 use borrow.Author.Needs.{needs}
 use Rattle.shares.proofs.share.part.Statement.{statement}
 use Rattle.shares.proofs.share.part.Tie as tie
-use Rattle.shares.proofs.share.part.Reads as reads
-use Rattle.shares.proofs.share.part.Lts as lts
-use Rattle.share_format.proofs.bounds.part.Reads as part-reads
-use Rattle.shares.proofs.share.check.Reads as check-reads
-use Rattle.shares.proofs.share.part_number.Reads as part-number-reads
 
 -- The part that the edition asks for.
 which : (c : tie.After-part-number)
@@ -23,7 +18,8 @@ which : (c : tie.After-part-number)
 which c =
     let k = c .before .before .check .ensures in
     let a = c .before .before .before .before .args in
-    numbered (editionOf (a .s .now)) _ (a .in-sdmf) (a .in-mdmf) (ap (λ (x : Checked). x .edition) k ∙ checked-named (a .s .now))
+    numbered (editionOf (a .s .now)) _ (a .in-sdmf) (a .in-mdmf)
+    (ap (λ (x : Checked). x .edition) k ∙ checked-named (a .s .now))
 
 check-requires : tie.Need-check-requires
 check-requires c κs = search needs
