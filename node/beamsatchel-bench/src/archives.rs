@@ -9,8 +9,10 @@
 
 use crate::contest::{contest, contest_each, Samples, Side};
 use crate::lengths;
-use crate::work::{self, Player, Slot, Source, NEW_SHARES};
-use beamsatchel_node::ffi::{RawAnswer, RawShare, RawWrittenShare, ShareArguments};
+use crate::work::{self, Player, Slot};
+use beamsatchel_node::ffi::{
+    EditionArguments, RawAnswer, RawShare, RawWrittenShare, ShareArguments,
+};
 use std::cell::RefCell;
 use std::collections::HashSet;
 use std::ffi::{c_char, c_int, c_void, CStr, CString};
@@ -25,12 +27,40 @@ use std::{env, fs, process};
 const BLOCK: usize = 64;
 /// Functions begin at multiples of 16.
 const PLACES: usize = BLOCK / 16;
+/// What a row says that not every archive can have.
+const LEFT_OUT: &str = "left out, since not every archive takes it";
 /// dlopen's flag to resolve all names at once.
 const NOW: c_int = 2;
 
 type Apply = unsafe extern "C" fn(*mut u8, usize, *const u8, usize, *mut u8, usize) -> RawAnswer;
+/// An archive of a version before 0.7.0 fills less of the answer, which begins with the number all the same.
 type Check = unsafe extern "C" fn(*const u8, usize) -> RawShare;
-type WriteShare = unsafe extern "C" fn(
+type WriteMdmf = unsafe extern "C" fn(
+    u64,
+    *const u8,
+    usize,
+    u8,
+    u8,
+    u64,
+    u64,
+    *const u8,
+    usize,
+    *const u8,
+    usize,
+    *const u8,
+    usize,
+    *const u8,
+    usize,
+    *const u8,
+    usize,
+    *const u8,
+    usize,
+    *const u8,
+    usize,
+    *mut u8,
+    usize,
+) -> RawWrittenShare;
+type WriteSdmf = unsafe extern "C" fn(
     u64,
     *const u8,
     usize,
@@ -66,7 +96,9 @@ struct Library {
     check_share: Check,
     check_container: Check,
     /// An archive of a version before 0.3.0 has none.
-    write_share: Option<WriteShare>,
+    write_sdmf: Option<WriteSdmf>,
+    /// One before 0.7.0 has none.
+    write_mdmf: Option<WriteMdmf>,
 }
 
 impl Library {
@@ -90,14 +122,19 @@ impl Library {
         let apply = find(c"beamsatchel_apply")?;
         let check_share = find(c"beamsatchel_check_share")?;
         let check_container = find(c"beamsatchel_check_container")?;
-        let write_share = find(c"beamsatchel_write_share").ok();
+        // Before 0.7.0 it was the only writer, and named so.
+        let write_sdmf =
+            find(c"beamsatchel_write_sdmf").or_else(|_| find(c"beamsatchel_write_share"));
+        let write_sdmf = write_sdmf.ok();
+        let write_mdmf = find(c"beamsatchel_write_mdmf").ok();
         // SAFETY: the types are those of include/beamsatchel.h.
         unsafe {
             Ok(Library {
                 apply: transmute::<*mut c_void, Apply>(apply),
                 check_share: transmute::<*mut c_void, Check>(check_share),
                 check_container: transmute::<*mut c_void, Check>(check_container),
-                write_share: write_share.map(|found| transmute::<*mut c_void, WriteShare>(found)),
+                write_sdmf: write_sdmf.map(|found| transmute::<*mut c_void, WriteSdmf>(found)),
+                write_mdmf: write_mdmf.map(|found| transmute::<*mut c_void, WriteMdmf>(found)),
             })
         }
     }
@@ -116,27 +153,41 @@ impl Library {
         };
         answer.number
     }
+
+    /// Writes a share; none where there is no writer of its edition.
+    fn write(&self, share: &ShareArguments, space: &mut [u8]) -> Option<u32> {
+        let written = match share.edition {
+            EditionArguments::Sdmf { iv } => write_sdmf(self.write_sdmf?, share, iv, space),
+            EditionArguments::Mdmf {
+                segment_size,
+                spare,
+            } => write_mdmf(self.write_mdmf?, share, (segment_size, spare), space),
+        };
+        Some(written.number)
+    }
 }
 
-/// Checks bytes that hold a good share.
-fn check(check: Check, bytes: &[u8]) {
+/// Checks bytes that hold a share; gives the outcome.
+fn check(check: Check, bytes: &[u8]) -> u32 {
     let bytes = black_box(bytes);
     // SAFETY: pointer and length are those of one live slice, which is only read.
-    let answer = unsafe { check(bytes.as_ptr(), bytes.len()) };
-    assert_eq!(answer.number, 0);
+    unsafe { check(bytes.as_ptr(), bytes.len()) }.number
 }
 
-/// Writes a good share.
-fn write(write_share: WriteShare, share: &ShareArguments, space: &mut [u8]) {
-    let share = black_box(share);
+fn write_sdmf(
+    write: WriteSdmf,
+    share: &ShareArguments,
+    iv: &[u8],
+    space: &mut [u8],
+) -> RawWrittenShare {
     // SAFETY: pointer and length of each are those of one live slice, and the space overlaps no other.
-    let written = unsafe {
-        write_share(
+    unsafe {
+        write(
             share.sequence_number,
             share.root_hash.as_ptr(),
             share.root_hash.len(),
-            share.iv.as_ptr(),
-            share.iv.len(),
+            iv.as_ptr(),
+            iv.len(),
             share.k,
             share.n,
             share.data_length,
@@ -155,8 +206,43 @@ fn write(write_share: WriteShare, share: &ShareArguments, space: &mut [u8]) {
             space.as_mut_ptr(),
             space.len(),
         )
-    };
-    assert_eq!(written.number, 0);
+    }
+}
+
+fn write_mdmf(
+    write: WriteMdmf,
+    share: &ShareArguments,
+    (segment_size, spare): (u64, &[u8]),
+    space: &mut [u8],
+) -> RawWrittenShare {
+    // SAFETY: as for `write_sdmf`.
+    unsafe {
+        write(
+            share.sequence_number,
+            share.root_hash.as_ptr(),
+            share.root_hash.len(),
+            share.k,
+            share.n,
+            segment_size,
+            share.data_length,
+            share.encrypted_private_key.as_ptr(),
+            share.encrypted_private_key.len(),
+            share.hash_chain.as_ptr(),
+            share.hash_chain.len(),
+            share.signature.as_ptr(),
+            share.signature.len(),
+            share.verification_key.as_ptr(),
+            share.verification_key.len(),
+            spare.as_ptr(),
+            spare.len(),
+            share.share_data.as_ptr(),
+            share.share_data.len(),
+            share.block_tree.as_ptr(),
+            share.block_tree.len(),
+            space.as_mut_ptr(),
+            space.len(),
+        )
+    }
 }
 
 /// Makes a shared object of the archive, its code `shift` bytes further on.
@@ -238,10 +324,7 @@ pub fn against_each_other(archives: &[PathBuf]) -> Result<(), String> {
         let mut takes =
             |library: &Library| player.borrow_mut().takes(&|c, q, r| library.apply(c, q, r));
         if !libraries.iter().all(&mut takes) {
-            println!(
-                "{:<50} left out, since not every archive takes it",
-                workload.name
-            );
+            println!("{:<50} {LEFT_OUT}", workload.name);
             continue;
         }
         let play = |library: &Library| {
@@ -253,34 +336,36 @@ pub fn against_each_other(archives: &[PathBuf]) -> Result<(), String> {
         row_from(&workload.name, &libraries, begin, play);
     }
     long_rows(&libraries);
-    let share = work::share();
-    row("check a bare share of 2,043 bytes", &libraries, |library| {
-        check(library.check_share, &share);
-    });
-    let container = Slot::with_share(60 * 1024);
-    row(
-        "check a share in a 60 KiB container",
-        &libraries,
-        |library| {
-            check(library.check_container, &container);
-        },
-    );
-    if libraries
-        .iter()
-        .any(|library| library.write_share.is_none())
-    {
-        println!("no shares are written, since not every archive has the writer");
-        return Ok(());
+    for (name, share) in work::bare_shares() {
+        share_row(name, &libraries, |library| {
+            Some(check(library.check_share, &share))
+        });
     }
-    for (name, length) in NEW_SHARES {
-        let source = Source::new(length);
+    let container = Slot::with_share(60 * 1024);
+    let name = "check a share in a 60 KiB container";
+    share_row(name, &libraries, |library| {
+        Some(check(library.check_container, &container))
+    });
+    for (name, source) in work::new_shares() {
+        let length = source.new_share().length() as usize;
         let (share, space) = (source.arguments(), RefCell::new(vec![0; length]));
-        row(name, &libraries, |library| {
-            let write_share = library.write_share.expect("each has it");
-            write(write_share, &share, &mut space.borrow_mut());
+        share_row(name, &libraries, |library| {
+            library.write(black_box(&share), &mut space.borrow_mut())
         });
     }
     Ok(())
+}
+
+/// A row of calls that are done, with outcome 0. It is left out where an archive does not know that edition of a share,
+/// or has no writer of it.
+fn share_row(name: &str, libraries: &[Library], call: impl Fn(&Library) -> Option<u32>) {
+    if libraries.iter().any(|library| call(library) != Some(0)) {
+        println!("{name:<50} {LEFT_OUT}");
+        return;
+    }
+    row(name, libraries, |library| {
+        assert_eq!(call(library), Some(0))
+    });
 }
 
 fn row(name: &str, libraries: &[Library], call: impl Fn(&Library)) {

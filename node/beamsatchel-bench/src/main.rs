@@ -13,7 +13,7 @@ use beamsatchel_node::ffi;
 use contest::{contest, Side};
 use std::hint::black_box;
 use std::path::PathBuf;
-use work::{Player, Slot, Source, NEW_SHARES};
+use work::{Player, Slot};
 
 const USAGE: &str = "usage: beamsatchel-bench [BEFORE.a AFTER.a...]";
 
@@ -56,21 +56,22 @@ fn against_rust() {
         );
         assert!(library.container == rust.container, "the containers differ");
     }
-    let share = work::share();
-    row(
-        "check a bare share of 2,043 bytes",
-        || assert_eq!(ffi::check_share(black_box(&share)).number, 0),
-        || assert_eq!(fast::check_share(black_box(&share)).number, 0),
-    );
+    for (name, share) in work::bare_shares() {
+        row(
+            name,
+            || assert_eq!(ffi::check_share(black_box(&share)).number, 0),
+            || assert_eq!(fast::check_share(black_box(&share)).number, 0),
+        );
+    }
     let container = Slot::with_share(60 * 1024);
     row(
         "check a share in a 60 KiB container",
         || assert_eq!(ffi::check_container(black_box(&container)).number, 0),
         || assert_eq!(fast::check_container(black_box(&container)).number, 0),
     );
-    for (name, length) in NEW_SHARES {
-        let source = Source::new(length);
+    for (name, source) in work::new_shares() {
         let (arguments, new_share) = (source.arguments(), source.new_share());
+        let length = new_share.length() as usize;
         let (mut by_library, mut by_rust) = (vec![1; length], vec![2; length]);
         row(
             name,

@@ -1,7 +1,7 @@
 //! The containers, requests and shares of the benchmark.
 
-use beamsatchel_model::NewShare;
-use beamsatchel_node::ffi::ShareArguments;
+use beamsatchel_model::{fast, NewEdition, NewShare};
+use beamsatchel_node::ffi::{EditionArguments, ShareArguments};
 use beamsatchel_node::{
     AddLease, CancelLease, CancelToken, Container, Lease, NodeId, Offset, Opcode, ReadData,
     RenewLease, RenewalToken, TestAndWrite, WriteEnabler,
@@ -285,7 +285,7 @@ pub fn rows() -> Vec<Workload> {
 }
 
 /// The share of 2,043 bytes, of Numbers at the edges in docs/RULES.md.
-pub fn share() -> Vec<u8> {
+fn share() -> Vec<u8> {
     let mut share = vec![0; 2043];
     share[8] = 1;
     share[57..59].copy_from_slice(&[3, 10]);
@@ -307,35 +307,63 @@ pub fn share() -> Vec<u8> {
     share
 }
 
-/// What a share is written from: that of 2,043 bytes, or one with more share data. The bytes are that share's, with the
-/// share data behind it.
-pub struct Source(Vec<u8>);
+/// What a share is written from: numbers and parts of that of 2,043 bytes, with other data.
+pub struct Source {
+    share: Vec<u8>,
+    data_length: u64,
+    block_tree: Vec<u8>,
+    share_data: Vec<u8>,
+    /// None for SDMF.
+    segment_size: Option<u64>,
+}
 
 impl Source {
-    /// The source of a share of so many bytes, at least 2,043.
-    pub fn new(length: usize) -> Source {
-        let mut bytes = share();
-        // The share has 4 bytes of share data itself.
-        bytes.resize(4 + length, 0);
-        Source(bytes)
+    /// The source of an SDMF share of so many bytes, at least 2,043.
+    fn sdmf(length: usize) -> Source {
+        // Of the 2,043 bytes, 4 are share data.
+        let blocks = 4 + length - 2043;
+        Source {
+            share: share(),
+            data_length: data_length(blocks),
+            block_tree: vec![0; 32],
+            share_data: vec![0; blocks],
+            segment_size: None,
+        }
+    }
+
+    /// The source of an MDMF share with so many segments, and blocks of so many bytes.
+    fn mdmf(segments: usize, block: usize) -> Source {
+        Source {
+            share: share(),
+            data_length: data_length(segments * block),
+            block_tree: vec![0; 32 * (2 * segments.next_power_of_two() - 1)],
+            share_data: vec![0; segments * (16 + block)],
+            segment_size: Some(3 * block as u64),
+        }
     }
 
     /// For the library.
     pub fn arguments(&self) -> ShareArguments<'_> {
-        let (share, share_data) = self.0.split_at(2043);
+        let share = &self.share;
         ShareArguments {
             sequence_number: 1,
             root_hash: &share[9..41],
-            iv: &share[41..57],
             k: 3,
             n: 10,
-            data_length: 3 * share_data.len() as u64 - 2,
+            data_length: self.data_length,
             verification_key: &share[107..399],
             signature: &share[399..655],
             hash_chain: &share[655..791],
-            block_tree: &share[791..823],
-            share_data,
+            block_tree: &self.block_tree,
+            share_data: &self.share_data,
             encrypted_private_key: &share[827..],
+            edition: match self.segment_size {
+                None => EditionArguments::Sdmf { iv: &share[41..57] },
+                Some(segment_size) => EditionArguments::Mdmf {
+                    segment_size,
+                    spare: &[],
+                },
+            },
         }
     }
 
@@ -345,7 +373,6 @@ impl Source {
         NewShare {
             sequence_number: share.sequence_number,
             root_hash: share.root_hash,
-            iv: share.iv,
             k: share.k,
             n: share.n,
             data_length: share.data_length,
@@ -355,15 +382,57 @@ impl Source {
             block_tree: share.block_tree,
             share_data: share.share_data,
             encrypted_private_key: share.encrypted_private_key,
+            edition: match share.edition {
+                EditionArguments::Sdmf { iv } => NewEdition::Sdmf { iv },
+                EditionArguments::Mdmf {
+                    segment_size,
+                    spare,
+                } => NewEdition::Mdmf {
+                    segment_size,
+                    spare,
+                },
+            },
         }
+    }
+
+    /// The share itself.
+    pub fn written(&self) -> Vec<u8> {
+        let share = self.new_share();
+        let mut bytes = vec![0; share.length() as usize];
+        assert_eq!(fast::write_share(&share, &mut bytes).number, 0);
+        bytes
     }
 }
 
-/// The rows of shares that are written: a name, and the share's length.
-pub const NEW_SHARES: [(&str, usize); 2] = [
-    ("write a share of 2,043 bytes", 2043),
-    ("write a share of 60 KiB", 60 * 1024),
-];
+/// The data of a share of k = 3 with so many bytes of blocks, the last one not full.
+fn data_length(blocks: usize) -> u64 {
+    3 * blocks as u64 - 2
+}
+
+/// The rows of bare shares that are checked.
+pub fn bare_shares() -> [(&'static str, Vec<u8>); 3] {
+    [
+        ("check a bare share of 2,043 bytes", share()),
+        (
+            "check a bare MDMF share of 2,075 bytes",
+            Source::mdmf(1, 4).written(),
+        ),
+        (
+            "check a bare MDMF share of 8 segments",
+            Source::mdmf(8, 7351).written(),
+        ),
+    ]
+}
+
+/// The rows of shares that are written. That of 8 segments has 60 KiB too, but for a byte.
+pub fn new_shares() -> [(&'static str, Source); 4] {
+    [
+        ("write a share of 2,043 bytes", Source::sdmf(2043)),
+        ("write a share of 60 KiB", Source::sdmf(60 * 1024)),
+        ("write an MDMF share of 2,075 bytes", Source::mdmf(1, 4)),
+        ("write an MDMF share of 8 segments", Source::mdmf(8, 7351)),
+    ]
+}
 
 /// A side: container, request and reply space in, the outcome's number out.
 pub type Apply<'a> = dyn Fn(&mut [u8], &[u8], &mut [u8]) -> u32 + 'a;

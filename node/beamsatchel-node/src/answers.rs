@@ -45,15 +45,16 @@ pub enum Reason {
     NoRoom = 11,
     /// 12: create on a buffer that begins with the magic.
     AlreadyContainer = 12,
-    /// 21: the share is shorter than its header.
+    /// 21: the share is shorter than its header: 107 bytes, or 123 where it begins as MDMF does.
     ShareShort = 21,
-    /// 22: the share's version is not 0.
+    /// 22: the share's version is neither 0, SDMF, nor 1, MDMF.
     ShareVersion = 22,
     /// 23: the share's k is 0 or above N.
     ShareCoding = 23,
-    /// 24: the share's segment size does not follow from data length and k.
+    /// 24: the share's segment size does not follow from data length and k (SDMF), or is no multiple of k, or 0 with
+    /// data (MDMF).
     ShareSegmentSize = 24,
-    /// 25: the share's offsets are not in order, or its end is not its last byte.
+    /// 25: the share's offsets are not in order, or do not reach from its header to its last byte.
     ShareOffsets = 25,
     /// 26: the share's hash chain has a wrong length or a wrong node number.
     ShareHashChain = 26,
@@ -115,18 +116,23 @@ impl Reason {
             Reason::LeasesFull => "There are 64 leases, none with the renewal token.",
             Reason::NoRoom => "The result would not fit the container's buffer.",
             Reason::AlreadyContainer => "The buffer begins with a container's magic.",
-            Reason::ShareShort => "The share is shorter than its 107-byte header.",
-            Reason::ShareVersion => "The share's version is not 0.",
+            Reason::ShareShort => "The share is shorter than its header, 107 bytes in SDMF and 123 in MDMF.",
+            Reason::ShareVersion => "The share's version is neither 0 (SDMF) nor 1 (MDMF).",
             Reason::ShareCoding => "The share's k is 0 or above its N.",
             Reason::ShareSegmentSize => {
-                "The share's segment size is not the least multiple of k at or above its data length."
+                "The share's segment size is not the least multiple of k at or above its data length (SDMF), \
+                 or is no multiple of k, or 0 with data (MDMF)."
             }
-            Reason::ShareOffsets => "The share's offsets are not in order, or do not end with its last byte.",
+            Reason::ShareOffsets => {
+                "The share's offsets are not in order, or do not reach from its header to its last byte."
+            }
             Reason::ShareHashChain => {
                 "The share's hash chain has a wrong length, or a node number in it repeats or is too large."
             }
-            Reason::ShareBlockTree => "The share's block tree has another length than its data length asks.",
-            Reason::ShareData => "The share's data is not segment size / k bytes long.",
+            Reason::ShareBlockTree => "The share's block tree has another length than its number of segments asks.",
+            Reason::ShareData => {
+                "The share's data is not data length / k bytes long, rounded up, and 16 more for each segment (MDMF)."
+            }
             Reason::ShareSequence => "The share's sequence number is 2^64-1, which has no successor.",
         }
     }

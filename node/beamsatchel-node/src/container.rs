@@ -191,7 +191,7 @@ impl<B: AsRef<[u8]>> Container<B> {
         View::open(self.as_bytes())
     }
 
-    /// The SDMF share that is the container's data.
+    /// The share that is the container's data, SDMF or MDMF.
     pub fn share(&self) -> Result<Share<'_>, Refusal> {
         Share::in_container(self.as_bytes())
     }

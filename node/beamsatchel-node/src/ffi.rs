@@ -1,7 +1,8 @@
-//! The boundary: the six C-callable functions of the proved library, on slices.
+//! The boundary: the seven C-callable functions of the proved library, on slices.
 //!
 //! Everything `unsafe` of this crate stands here. The functions take any bytes, of any length; a node's programmer
 //! will rather use [`Container`](crate::Container), [`Share`](crate::Share) and [`NewShare`](crate::NewShare).
+//! [`write_share`] stands for two of the seven, one for each edition.
 
 #![allow(unsafe_code)]
 
@@ -27,9 +28,11 @@ pub struct RawAnswer {
 pub struct RawShare {
     /// The outcome's number.
     pub number: u32,
-    /// The seven boundaries of the six parts, counted from the first of the bytes that were checked, a container's
-    /// also; all 0 on a refusal.
-    pub bounds: [u64; 7],
+    /// 1 where the share's first byte is 1, which is MDMF, also on a refusal for the share; else 0.
+    pub edition: u32,
+    /// The eight boundaries of seven parts, in the order in which they lie, counted from the first of the bytes that
+    /// were checked, a container's also; all 0 on a refusal. In SDMF the seventh part is always empty.
+    pub bounds: [u64; 8],
 }
 
 /// `beamsatchel_written` of `include/beamsatchel.h`.
@@ -44,7 +47,7 @@ pub struct RawWrittenShare {
 }
 
 // The sizes that a C compiler gives the structs.
-const _: () = assert!(size_of::<RawAnswer>() == 32 && size_of::<RawShare>() == 64);
+const _: () = assert!(size_of::<RawAnswer>() == 32 && size_of::<RawShare>() == 72);
 const _: () = assert!(size_of::<RawWrittenShare>() == 16);
 
 /// What [`write_share`] writes a share from, by name: any numbers, and slices of any length.
@@ -54,48 +57,85 @@ pub struct ShareArguments<'a> {
     pub sequence_number: u64,
     /// R, the root hash.
     pub root_hash: &'a [u8],
-    /// IV, the initialization vector.
-    pub iv: &'a [u8],
     /// k, how many shares are needed.
     pub k: u8,
     /// N, how many shares there are.
     pub n: u8,
     /// The data length.
     pub data_length: u64,
-    /// The first part.
+    /// The verification key.
     pub verification_key: &'a [u8],
-    /// The second part.
+    /// The signature.
     pub signature: &'a [u8],
-    /// The third part.
+    /// The hash chain.
     pub hash_chain: &'a [u8],
-    /// The fourth part.
+    /// The block tree.
     pub block_tree: &'a [u8],
-    /// The fifth part.
+    /// The share data.
     pub share_data: &'a [u8],
-    /// The sixth part.
+    /// The encrypted private key.
     pub encrypted_private_key: &'a [u8],
+    /// Which writer is called, and what it alone takes.
+    pub edition: EditionArguments<'a>,
+}
+
+/// What only one of the two writers takes.
+#[derive(Clone, Copy, PartialEq, Eq)]
+pub enum EditionArguments<'a> {
+    /// `beamsatchel_write_sdmf`.
+    Sdmf {
+        /// IV, the initialization vector.
+        iv: &'a [u8],
+    },
+    /// `beamsatchel_write_mdmf`.
+    Mdmf {
+        /// The segment size.
+        segment_size: u64,
+        /// The spare bytes.
+        spare: &'a [u8],
+    },
 }
 
 /// Numbers and lengths, as of a [`NewShare`](crate::NewShare).
 impl fmt::Debug for ShareArguments<'_> {
     fn fmt(&self, f: &mut fmt::Formatter<'_>) -> fmt::Result {
-        let parts = [
-            self.verification_key,
-            self.signature,
-            self.hash_chain,
-            self.block_tree,
-            self.share_data,
-            self.encrypted_private_key,
-        ];
         f.debug_struct("ShareArguments")
+            .field("edition", &self.edition)
             .field("sequence_number", &self.sequence_number)
             .field("root_hash_len", &self.root_hash.len())
-            .field("iv_len", &self.iv.len())
             .field("k", &self.k)
             .field("n", &self.n)
             .field("data_length", &self.data_length)
-            .field("part_lens", &parts.map(<[u8]>::len))
+            .field("verification_key_len", &self.verification_key.len())
+            .field("signature_len", &self.signature.len())
+            .field("hash_chain_len", &self.hash_chain.len())
+            .field("block_tree_len", &self.block_tree.len())
+            .field("share_data_len", &self.share_data.len())
+            .field(
+                "encrypted_private_key_len",
+                &self.encrypted_private_key.len(),
+            )
             .finish_non_exhaustive()
+    }
+}
+
+/// Number and lengths.
+impl fmt::Debug for EditionArguments<'_> {
+    fn fmt(&self, f: &mut fmt::Formatter<'_>) -> fmt::Result {
+        match self {
+            EditionArguments::Sdmf { iv } => f
+                .debug_struct("Sdmf")
+                .field("iv_len", &iv.len())
+                .finish_non_exhaustive(),
+            EditionArguments::Mdmf {
+                segment_size,
+                spare,
+            } => f
+                .debug_struct("Mdmf")
+                .field("segment_size", segment_size)
+                .field("spare_len", &spare.len())
+                .finish_non_exhaustive(),
+        }
     }
 }
 
@@ -133,7 +173,7 @@ unsafe extern "C" {
 
     fn beamsatchel_check_container(container: *const u8, container_len: usize) -> RawShare;
 
-    fn beamsatchel_write_share(
+    fn beamsatchel_write_sdmf(
         sequence_number: u64,
         root_hash: *const u8,
         root_hash_len: usize,
@@ -154,6 +194,32 @@ unsafe extern "C" {
         share_data_len: usize,
         encrypted_private_key: *const u8,
         encrypted_private_key_len: usize,
+        space: *mut u8,
+        space_len: usize,
+    ) -> RawWrittenShare;
+
+    fn beamsatchel_write_mdmf(
+        sequence_number: u64,
+        root_hash: *const u8,
+        root_hash_len: usize,
+        k: u8,
+        n: u8,
+        segment_size: u64,
+        data_length: u64,
+        encrypted_private_key: *const u8,
+        encrypted_private_key_len: usize,
+        hash_chain: *const u8,
+        hash_chain_len: usize,
+        signature: *const u8,
+        signature_len: usize,
+        verification_key: *const u8,
+        verification_key_len: usize,
+        spare: *const u8,
+        spare_len: usize,
+        share_data: *const u8,
+        share_data_len: usize,
+        block_tree: *const u8,
+        block_tree_len: usize,
         space: *mut u8,
         space_len: usize,
     ) -> RawWrittenShare;
@@ -250,16 +316,15 @@ pub fn check_container(container: &[u8]) -> RawShare {
     unsafe { beamsatchel_check_container(container.as_ptr(), container.len()) }
 }
 
-/// Writes a share into the first bytes of the space. On a refusal no byte of the space changes, and on 0 none behind
-/// the share.
+/// Writes a share into the first bytes of the space, by the writer of its edition. On a refusal no byte of the space
+/// changes, and on 0 none behind the share.
 ///
 /// ```
-/// use beamsatchel_node::ffi::{self, ShareArguments};
+/// use beamsatchel_node::ffi::{self, EditionArguments, ShareArguments};
 ///
 /// let share = ShareArguments {
 ///     sequence_number: 1,
 ///     root_hash: &[0x52; 32],
-///     iv: &[0x49; 15],
 ///     k: 1,
 ///     n: 1,
 ///     data_length: 0,
@@ -269,22 +334,37 @@ pub fn check_container(container: &[u8]) -> RawShare {
 ///     block_tree: b"",
 ///     share_data: b"",
 ///     encrypted_private_key: b"P",
+///     edition: EditionArguments::Sdmf { iv: &[0x49; 15] },
 /// };
-/// let mut space = [0; 110];
+/// let mut space = [0; 200];
 /// assert_eq!(ffi::write_share(&share, &mut space).number, 3);
-/// let share = ShareArguments { iv: &[0x49; 16], ..share };
-/// let written = ffi::write_share(&share, &mut space);
-/// assert_eq!((written.number, written.length), (0, 110));
+/// for (edition, length) in [
+///     (EditionArguments::Sdmf { iv: &[0x49; 16] }, 107 + 3),
+///     (EditionArguments::Mdmf { segment_size: 0, spare: b"spare" }, 123 + 8),
+/// ] {
+///     let written = ffi::write_share(&ShareArguments { edition, ..share }, &mut space);
+///     assert_eq!((written.number, written.length), (0, length));
+/// }
 /// ```
 pub fn write_share(share: &ShareArguments<'_>, space: &mut [u8]) -> RawWrittenShare {
+    match share.edition {
+        EditionArguments::Sdmf { iv } => write_sdmf(share, iv, space),
+        EditionArguments::Mdmf {
+            segment_size,
+            spare,
+        } => write_mdmf(share, segment_size, spare, space),
+    }
+}
+
+fn write_sdmf(share: &ShareArguments<'_>, iv: &[u8], space: &mut [u8]) -> RawWrittenShare {
     // SAFETY: as for `create`; all but the space are only read, and the `&mut` slice overlaps none of them.
     unsafe {
-        beamsatchel_write_share(
+        beamsatchel_write_sdmf(
             share.sequence_number,
             share.root_hash.as_ptr(),
             share.root_hash.len(),
-            share.iv.as_ptr(),
-            share.iv.len(),
+            iv.as_ptr(),
+            iv.len(),
             share.k,
             share.n,
             share.data_length,
@@ -300,6 +380,42 @@ pub fn write_share(share: &ShareArguments<'_>, space: &mut [u8]) -> RawWrittenSh
             share.share_data.len(),
             share.encrypted_private_key.as_ptr(),
             share.encrypted_private_key.len(),
+            space.as_mut_ptr(),
+            space.len(),
+        )
+    }
+}
+
+fn write_mdmf(
+    share: &ShareArguments<'_>,
+    segment_size: u64,
+    spare: &[u8],
+    space: &mut [u8],
+) -> RawWrittenShare {
+    // SAFETY: as for `write_sdmf`.
+    unsafe {
+        beamsatchel_write_mdmf(
+            share.sequence_number,
+            share.root_hash.as_ptr(),
+            share.root_hash.len(),
+            share.k,
+            share.n,
+            segment_size,
+            share.data_length,
+            share.encrypted_private_key.as_ptr(),
+            share.encrypted_private_key.len(),
+            share.hash_chain.as_ptr(),
+            share.hash_chain.len(),
+            share.signature.as_ptr(),
+            share.signature.len(),
+            share.verification_key.as_ptr(),
+            share.verification_key.len(),
+            spare.as_ptr(),
+            spare.len(),
+            share.share_data.as_ptr(),
+            share.share_data.len(),
+            share.block_tree.as_ptr(),
+            share.block_tree.len(),
             space.as_mut_ptr(),
             space.len(),
         )

@@ -31,32 +31,90 @@ pub const MAX_LENGTH: usize = 16_777_216;
 /// The most bytes of a request.
 pub const MAX_REQUEST: usize = 65_536;
 
-/// The header of an SDMF share.
+/// The header of a share: what both editions have at the same bytes, and for each edition a table of the rest.
 pub mod share {
+    use crate::shares::Part;
+
+    /// The version, in 1 byte: 0 for SDMF, 1 for MDMF.
+    pub const VERSION: usize = 0;
     /// The sequence number, in 8 bytes.
     pub const SEQUENCE_NUMBER: usize = 1;
     /// R, the root hash, in 32 bytes.
     pub const ROOT_HASH: usize = 9;
-    /// IV, the initialization vector, in 16 bytes.
-    pub const IV: usize = 41;
-    /// k, how many shares are needed.
-    pub const K: usize = 57;
-    /// N, how many shares there are.
-    pub const N: usize = 58;
-    /// The segment size, in 8 bytes.
-    pub const SEGMENT_SIZE: usize = 59;
-    /// The data length, in 8 bytes.
-    pub const DATA_LENGTH: usize = 67;
-    /// The offset of the signature, in 4 bytes; the first of six offsets.
-    pub const SIGNATURE_OFFSET: usize = 75;
-    /// The offset of the hash chain, in 4 bytes.
-    pub const HASH_CHAIN_OFFSET: usize = 79;
-    /// The offset of the block tree, in 4 bytes.
-    pub const BLOCK_TREE_OFFSET: usize = 83;
-    /// The offset of the share data, in 4 bytes.
-    pub const SHARE_DATA_OFFSET: usize = 87;
-    /// The verification key, behind the whole header.
-    pub const VERIFICATION_KEY: usize = 107;
+
+    /// Where the fields of one edition's header begin.
+    #[derive(Clone, Copy, Debug, PartialEq, Eq)]
+    #[non_exhaustive]
+    pub struct Header {
+        /// IV, the initialization vector, in 16 bytes.
+        pub iv: Option<usize>,
+        /// k, how many shares are needed.
+        pub k: usize,
+        /// N, how many shares there are.
+        pub n: usize,
+        /// The segment size, in 8 bytes.
+        pub segment_size: usize,
+        /// The data length, in 8 bytes.
+        pub data_length: usize,
+        /// The offsets, in the order of the parts; the last one is that of the end.
+        pub offsets: &'static [OffsetField],
+        /// Bytes of the whole header. The first part follows it.
+        pub len: usize,
+    }
+
+    /// A field that says where a part begins, or where the last one ends.
+    #[derive(Clone, Copy, Debug, PartialEq, Eq)]
+    #[non_exhaustive]
+    pub struct OffsetField {
+        /// The part; none for the end.
+        pub part: Option<Part>,
+        /// Where the field begins.
+        pub at: usize,
+        /// Bytes of the field.
+        pub len: usize,
+    }
+
+    /// The header of an SDMF share. The verification key always follows it, so that there is no offset of it.
+    pub const SDMF: Header = Header {
+        iv: Some(41),
+        k: 57,
+        n: 58,
+        segment_size: 59,
+        data_length: 67,
+        offsets: &[
+            offset(Some(Part::Signature), 75, 4),
+            offset(Some(Part::HashChain), 79, 4),
+            offset(Some(Part::BlockTree), 83, 4),
+            offset(Some(Part::ShareData), 87, 4),
+            offset(Some(Part::EncryptedPrivateKey), 91, 8),
+            offset(None, 99, 8),
+        ],
+        len: 107,
+    };
+
+    /// The header of an MDMF share.
+    pub const MDMF: Header = Header {
+        iv: None,
+        k: 41,
+        n: 42,
+        segment_size: 43,
+        data_length: 51,
+        offsets: &[
+            offset(Some(Part::EncryptedPrivateKey), 59, 8),
+            offset(Some(Part::HashChain), 67, 8),
+            offset(Some(Part::Signature), 75, 8),
+            offset(Some(Part::VerificationKey), 83, 8),
+            offset(Some(Part::Spare), 91, 8),
+            offset(Some(Part::ShareData), 99, 8),
+            offset(Some(Part::BlockTree), 107, 8),
+            offset(None, 115, 8),
+        ],
+        len: 123,
+    };
+
+    const fn offset(part: Option<Part>, at: usize, len: usize) -> OffsetField {
+        OffsetField { part, at, len }
+    }
 }
 
 /// The N bytes of a field.

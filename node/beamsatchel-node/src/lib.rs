@@ -1,12 +1,12 @@
 //! The Beamsatchel slot container, for a Rust storage node.
 //!
 //! A [`Container`] is one Tahoe-LAFS mutable slot in a buffer that the node lends or hands over. The rules are those of
-//! `docs/RULES.md`, and the work is done by the proved library behind six C-callable functions; this crate gives them
+//! `docs/RULES.md`, and the work is done by the proved library behind seven C-callable functions; this crate gives them
 //! types. Whatever bytes arrive, every call ends in one of the numbered outcomes: done, or a [`Reason`], or a
 //! [`NewShareError`] where a share was to be written. A refused request changes no byte of the container, and a share
 //! that is not written no byte of the space for it. Tests, writes and reads begin at an [`Offset`], which counts from
-//! the start of the data or from its end. A slot's data is usually an SDMF share: [`Share`] checks one, and
-//! [`NewShare`] writes one.
+//! the start of the data or from its end. A slot's data is usually a share, SDMF of a small file or MDMF of a large
+//! one: [`Share`] checks one and tells its [`Edition`], and [`NewShare`] writes one.
 //!
 //! ```
 //! use beamsatchel_node::{Container, NodeId, Opcode, ReadData, TestAndWrite, WriteEnabler};
@@ -51,8 +51,8 @@
 //! nothing that takes minutes, in which cargo shows nothing. On a machine without the Rattle kit, `BEAMSATCHEL_ARCHIVE`
 //! names an archive that was made elsewhere, of the same version as this crate; a relative path is relative to where
 //! cargo is started. One of another version may link all the same, and goes by its own version's rules: only a program
-//! that calls what it lacks does not link. One before 0.6 refuses every offset from the end, appends too, with
-//! [`OffsetBeforeStart`](Reason::OffsetBeforeStart).
+//! that calls what it lacks does not link. One before 0.7 knows no MDMF, and what this crate reads in its answers to
+//! checks of shares means nothing, since they have another layout.
 
 #![warn(missing_docs)]
 
@@ -72,4 +72,4 @@ pub use faults::{Clause, Fault};
 pub use offsets::Offset;
 pub use requests::{AddLease, BuildError, CancelLease, Opcode, ReadData, RenewLease, TestAndWrite};
 pub use secrets::{CancelToken, RenewalToken, WriteEnabler};
-pub use shares::{NewShare, NewShareError, Share};
+pub use shares::{Edition, NewEdition, NewShare, NewShareError, Part, Share};

@@ -1,18 +1,133 @@
-//! SDMF shares, checked and written: the header's numbers and the six parts.
+//! Shares, SDMF and MDMF, checked and written: the header's numbers and the parts.
 
 use crate::answers::{no_outcome, outcome, Reason, Refusal};
-use crate::ffi::{self, RawShare, ShareArguments};
-use crate::layout::share::{
-    DATA_LENGTH, IV, K, N, ROOT_HASH, SEGMENT_SIZE, SEQUENCE_NUMBER, VERIFICATION_KEY,
-};
+use crate::ffi::{self, EditionArguments, RawShare, ShareArguments};
+use crate::layout::share::{Header, MDMF, ROOT_HASH, SDMF, SEQUENCE_NUMBER};
 use crate::layout::{field, DATA};
 use std::fmt;
 
-/// An SDMF share with a good layout: its header's numbers, and its six parts as slices of the
-/// caller's own bytes. The check verifies no hash and no signature.
+/// The editions of a share: SDMF for small files, with one segment, and MDMF for large ones, with any number.
 ///
 /// ```
-/// use beamsatchel_node::{Reason, Share};
+/// use beamsatchel_node::{Edition, Part};
+///
+/// assert_eq!(Edition::from_version(1), Some(Edition::Mdmf));
+/// assert_eq!(Edition::from_version(2), None);
+/// assert_eq!((Edition::Mdmf.version(), Edition::Mdmf.header().len), (1, 123));
+/// assert_eq!(Edition::Sdmf.parts()[0], Part::VerificationKey);
+/// assert_eq!(Edition::Mdmf.to_string(), "MDMF");
+/// ```
+#[derive(Clone, Copy, Debug, PartialEq, Eq, PartialOrd, Ord, Hash)]
+#[repr(u8)]
+pub enum Edition {
+    /// Version 0, small distributed mutable file.
+    Sdmf = 0,
+    /// Version 1, medium distributed mutable file.
+    Mdmf = 1,
+}
+
+impl Edition {
+    /// Both, by rising version.
+    pub const ALL: [Edition; 2] = [Edition::Sdmf, Edition::Mdmf];
+
+    /// The version, a share's first byte.
+    pub const fn version(self) -> u8 {
+        self as u8
+    }
+
+    /// The edition with a version; `None` where no edition has it.
+    pub fn from_version(version: u8) -> Option<Edition> {
+        let mut editions = Edition::ALL.into_iter();
+        editions.find(|edition| edition.version() == version)
+    }
+
+    /// Where the fields of the header begin.
+    pub const fn header(self) -> &'static Header {
+        match self {
+            Edition::Sdmf => &SDMF,
+            Edition::Mdmf => &MDMF,
+        }
+    }
+
+    /// The parts, in the order in which they lie.
+    pub const fn parts(self) -> &'static [Part] {
+        match self {
+            Edition::Sdmf => &[
+                Part::VerificationKey,
+                Part::Signature,
+                Part::HashChain,
+                Part::BlockTree,
+                Part::ShareData,
+                Part::EncryptedPrivateKey,
+            ],
+            Edition::Mdmf => &[
+                Part::EncryptedPrivateKey,
+                Part::HashChain,
+                Part::Signature,
+                Part::VerificationKey,
+                Part::Spare,
+                Part::ShareData,
+                Part::BlockTree,
+            ],
+        }
+    }
+}
+
+/// The edition's name.
+impl fmt::Display for Edition {
+    fn fmt(&self, f: &mut fmt::Formatter<'_>) -> fmt::Result {
+        f.write_str(match self {
+            Edition::Sdmf => "SDMF",
+            Edition::Mdmf => "MDMF",
+        })
+    }
+}
+
+/// A part of a share. SDMF has all but the last one here, MDMF has all; [`Edition::parts`] has them in their order.
+///
+/// ```
+/// use beamsatchel_node::Part;
+///
+/// assert_eq!(Part::EncryptedPrivateKey.to_string(), "encrypted private key");
+/// ```
+#[derive(Clone, Copy, Debug, PartialEq, Eq, Hash)]
+pub enum Part {
+    /// The key that verifies the signature.
+    VerificationKey,
+    /// The signature.
+    Signature,
+    /// Entries of a node number (2 bytes) and a hash (32).
+    HashChain,
+    /// Hashes of a tree over the segments.
+    BlockTree,
+    /// The block of each segment; in MDMF each has a salt before it.
+    ShareData,
+    /// The key that signs, encrypted.
+    EncryptedPrivateKey,
+    /// Bytes behind the verification key, of MDMF alone: any number of any bytes.
+    Spare,
+}
+
+/// The part's name, in words.
+impl fmt::Display for Part {
+    fn fmt(&self, f: &mut fmt::Formatter<'_>) -> fmt::Result {
+        f.pad(match self {
+            Part::VerificationKey => "verification key",
+            Part::Signature => "signature",
+            Part::HashChain => "hash chain",
+            Part::BlockTree => "block tree",
+            Part::ShareData => "share data",
+            Part::EncryptedPrivateKey => "encrypted private key",
+            Part::Spare => "spare",
+        })
+    }
+}
+
+/// A share with a good layout, of either edition: its header's numbers, and its parts as slices of the caller's own
+/// bytes. The check verifies no hash and no signature.
+///
+/// ```
+/// use beamsatchel_node::{Edition, Part, Reason, Share};
 ///
 /// # fn main() -> Result<(), beamsatchel_node::Refusal> {
 /// // k = N = 1 and no data: no hash chain, no block tree, no share data.
@@ -24,10 +139,14 @@ use std::fmt;
 /// }
 /// bytes[106] = 110; // end
 /// let share = Share::check(&bytes)?;
+/// assert_eq!(share.edition(), Edition::Sdmf);
 /// assert_eq!(share.verification_key(), &bytes[107..108]);
-/// assert_eq!(share.encrypted_private_key().len(), 1);
+/// assert_eq!(share.parts().last(), Some((Part::EncryptedPrivateKey, &bytes[109..])));
 ///
+/// // As MDMF it is shorter than its header, and there is no third edition.
 /// bytes[0] = 1;
+/// assert_eq!(Share::check(&bytes).unwrap_err().reason, Reason::ShareShort);
+/// bytes[0] = 2;
 /// assert_eq!(Share::check(&bytes).unwrap_err().reason, Reason::ShareVersion);
 /// # Ok(())
 /// # }
@@ -35,9 +154,13 @@ use std::fmt;
 #[derive(Clone, Copy, PartialEq, Eq)]
 pub struct Share<'a> {
     bytes: &'a [u8],
-    /// Where the six parts begin in the bytes, and where the last one ends.
-    bounds: [usize; 7],
+    edition: Edition,
+    bounds: Bounds,
 }
+
+/// Where the parts begin in a share's bytes, and where the last one ends. In SDMF a spare part follows the six, and is
+/// empty.
+type Bounds = [usize; 8];
 
 impl<'a> Share<'a> {
     /// Checks bare share bytes.
@@ -70,7 +193,11 @@ impl<'a> Share<'a> {
         outcome(checked.number).map_err(Refusal::of)?;
         let bounds = checked.bounds.map(|bound| bound as usize - start);
         Ok(Share {
-            bytes: &bytes[start..start + bounds[6]],
+            bytes: &bytes[start..start + bounds[7]],
+            edition: match checked.edition {
+                0 => Edition::Sdmf,
+                _ => Edition::Mdmf,
+            },
             bounds,
         })
     }
@@ -78,6 +205,11 @@ impl<'a> Share<'a> {
     /// All bytes of the share, the header's and the parts'.
     pub fn as_bytes(&self) -> &'a [u8] {
         self.bytes
+    }
+
+    /// Which edition the share is of.
+    pub fn edition(&self) -> Edition {
+        self.edition
     }
 
     /// The sequence number, below 2^64-1.
@@ -90,91 +222,118 @@ impl<'a> Share<'a> {
         field(self.bytes, ROOT_HASH)
     }
 
-    /// IV, the initialization vector.
-    pub fn iv(&self) -> [u8; 16] {
-        field(self.bytes, IV)
+    /// IV, the initialization vector, which SDMF alone has: in MDMF each block has a salt before it.
+    pub fn iv(&self) -> Option<[u8; 16]> {
+        self.edition.header().iv.map(|at| field(self.bytes, at))
     }
 
     /// k, how many shares are needed.
     pub fn k(&self) -> u8 {
-        self.bytes[K]
+        self.bytes[self.edition.header().k]
     }
 
     /// N, how many shares there are.
     pub fn n(&self) -> u8 {
-        self.bytes[N]
+        self.bytes[self.edition.header().n]
     }
 
     /// The segment size.
     pub fn segment_size(&self) -> u64 {
-        u64::from_be_bytes(field(self.bytes, SEGMENT_SIZE))
+        u64::from_be_bytes(field(self.bytes, self.edition.header().segment_size))
     }
 
     /// The data length.
     pub fn data_length(&self) -> u64 {
-        u64::from_be_bytes(field(self.bytes, DATA_LENGTH))
+        u64::from_be_bytes(field(self.bytes, self.edition.header().data_length))
     }
 
-    /// The first part.
+    /// How many segments the data has: data length / segment size, rounded up, and none without data. In SDMF there is
+    /// no more than one.
+    pub fn segments(&self) -> u64 {
+        match self.data_length() {
+            0 => 0,
+            // Which is not 0 then.
+            length => length.div_ceil(self.segment_size()),
+        }
+    }
+
+    /// The verification key, not empty.
     pub fn verification_key(&self) -> &'a [u8] {
-        self.part(0)
+        self.part(Part::VerificationKey)
     }
 
-    /// The second part.
+    /// The signature, not empty.
     pub fn signature(&self) -> &'a [u8] {
-        self.part(1)
+        self.part(Part::Signature)
     }
 
-    /// The third part: entries of a node number (2 bytes) and a hash (32).
+    /// The hash chain: entries of a node number (2 bytes) and a hash (32).
     pub fn hash_chain(&self) -> &'a [u8] {
-        self.part(2)
+        self.part(Part::HashChain)
     }
 
-    /// The fourth part: one hash, or nothing for data length 0.
+    /// The block tree, of hashes. In SDMF it is one hash, or nothing for data length 0; in MDMF a whole tree with a
+    /// leaf for each [segment](Share::segments), up to the next power of two, and nothing without segments.
     pub fn block_tree(&self) -> &'a [u8] {
-        self.part(3)
+        self.part(Part::BlockTree)
     }
 
-    /// The fifth part: segment size / k bytes.
+    /// The share data: data length / k bytes, rounded up, and in MDMF 16 more for each [segment](Share::segments), a
+    /// salt before its block.
     pub fn share_data(&self) -> &'a [u8] {
-        self.part(4)
+        self.part(Part::ShareData)
     }
 
-    /// The sixth part.
+    /// The encrypted private key, not empty.
     pub fn encrypted_private_key(&self) -> &'a [u8] {
-        self.part(5)
+        self.part(Part::EncryptedPrivateKey)
     }
 
-    /// All six parts, in the order in which they lie.
-    pub fn parts(&self) -> [&'a [u8]; 6] {
-        std::array::from_fn(|part| self.part(part))
+    /// The spare bytes, which MDMF alone has, behind the verification key; empty in SDMF.
+    pub fn spare(&self) -> &'a [u8] {
+        self.part(Part::Spare)
     }
 
-    fn part(&self, part: usize) -> &'a [u8] {
-        &self.bytes[self.bounds[part]..self.bounds[part + 1]]
+    /// A part by its name.
+    pub fn part(&self, part: Part) -> &'a [u8] {
+        let mut parts = self.edition.parts().iter();
+        // What is not among the six of SDMF follows them.
+        let place = parts.position(|there| *there == part).unwrap_or(6);
+        &self.bytes[self.bounds[place]..self.bounds[place + 1]]
+    }
+
+    /// The parts with their names, in the order in which they lie: six in SDMF, seven in MDMF.
+    pub fn parts(&self) -> impl ExactSizeIterator<Item = (Part, &'a [u8])> + Clone + use<'a> {
+        let share = *self;
+        let parts = self.edition.parts().iter();
+        parts.map(move |part| (*part, share.part(*part)))
     }
 }
 
 /// Numbers and lengths: a share's bytes are too many to print.
 impl fmt::Debug for Share<'_> {
     fn fmt(&self, f: &mut fmt::Formatter<'_>) -> fmt::Result {
+        let lengths: Vec<usize> = self.parts().map(|(_, bytes)| bytes.len()).collect();
         f.debug_struct("Share")
+            .field("edition", &self.edition)
             .field("sequence_number", &self.sequence_number())
             .field("k", &self.k())
             .field("n", &self.n())
             .field("segment_size", &self.segment_size())
             .field("data_length", &self.data_length())
-            .field("part_lens", &self.parts().map(<[u8]>::len))
+            .field("part_lens", &lengths)
             .finish_non_exhaustive()
     }
 }
 
-/// What an SDMF share is written from: numbers of its header, and its six parts. Version, segment size and offsets
+/// What a share is written from: numbers of its header, and its parts. Version, offsets and the segment size of SDMF
 /// follow from them. No hash and no signature is computed or verified: R, signature, hash chain and block tree are
 /// written as they are given.
 ///
+/// An SDMF share:
+///
 /// ```
-/// use beamsatchel_node::{NewShare, NewShareError, Share};
+/// use beamsatchel_node::{NewEdition, NewShare, NewShareError, Share};
 ///
 /// # fn main() -> Result<(), NewShareError> {
 /// // Of N = 2 shares, so the hash chain has one entry: a node number in 2 bytes, and a hash.
@@ -182,7 +341,6 @@ impl fmt::Debug for Share<'_> {
 /// let share = NewShare {
 ///     sequence_number: 1,
 ///     root_hash: [0x52; 32],
-///     iv: [0x49; 16],
 ///     k: 1,
 ///     n: 2,
 ///     data_length: 8,
@@ -192,6 +350,7 @@ impl fmt::Debug for Share<'_> {
 ///     block_tree: &[0xB7; 32],
 ///     share_data: b"VAN1 21C",
 ///     encrypted_private_key: b"another key",
+///     edition: NewEdition::Sdmf { iv: [0x49; 16] },
 /// };
 /// let mut space = vec![0; share.written_len()];
 /// let written = share.write(&mut space)?;
@@ -203,6 +362,39 @@ impl fmt::Debug for Share<'_> {
 /// # Ok(())
 /// # }
 /// ```
+///
+/// An MDMF share, with a salt before each block and a tree over the segments:
+///
+/// ```
+/// use beamsatchel_node::{NewEdition, NewShare, NewShareError, Share};
+///
+/// # fn main() -> Result<(), NewShareError> {
+/// let share_data = [&[0x5A; 16][..], b"VAN1 21C", &[0x5B; 16], b"VAN1"].concat();
+/// let share = NewShare {
+///     sequence_number: 1,
+///     root_hash: [0x52; 32],
+///     k: 1,
+///     n: 1,
+///     data_length: 12,
+///     verification_key: b"a key",
+///     signature: b"a signature",
+///     hash_chain: b"",
+///     block_tree: &[0xB7; 96], // two leaves and the root
+///     share_data: &share_data,
+///     encrypted_private_key: b"another key",
+///     edition: NewEdition::Mdmf { segment_size: 8, spare: b"" },
+/// };
+/// let mut space = vec![0; share.written_len()];
+/// let written = share.write(&mut space)?;
+/// assert_eq!((written.segments(), written.iv()), (2, None));
+/// assert_eq!(Share::check(written.as_bytes()), Ok(written));
+///
+/// let edition = NewEdition::Mdmf { segment_size: 4, spare: b"" };
+/// let smaller = NewShare { edition, ..share };
+/// assert_eq!(smaller.write(&mut [0; 300]), Err(NewShareError::BlockTree));
+/// # Ok(())
+/// # }
+/// ```
 #[derive(Clone, Copy, PartialEq, Eq)]
 #[must_use]
 pub struct NewShare<'a> {
@@ -210,27 +402,55 @@ pub struct NewShare<'a> {
     pub sequence_number: u64,
     /// R, the root hash.
     pub root_hash: [u8; 32],
-    /// IV, the initialization vector.
-    pub iv: [u8; 16],
     /// k, how many shares are needed, from 1 to N.
     pub k: u8,
     /// N, how many shares there are.
     pub n: u8,
-    /// The data length. The segment size is the least multiple of k at or above it, and must be below 2^64.
+    /// The data length.
     pub data_length: u64,
-    /// The first part, not empty.
+    /// The verification key, not empty.
     pub verification_key: &'a [u8],
-    /// The second part, not empty.
+    /// The signature, not empty.
     pub signature: &'a [u8],
-    /// The third part: c entries of a node number (2 bytes) and a hash (32), where c is the least number with 2^c at
+    /// The hash chain: c entries of a node number (2 bytes) and a hash (32), where c is the least number with 2^c at
     /// least N. The node numbers differ, and each is below 2 * 2^c - 1.
     pub hash_chain: &'a [u8],
-    /// The fourth part: 32 bytes, a hash; for data length 0 it may be empty.
+    /// The block tree. In SDMF it is 32 bytes, a hash; for data length 0 it may be empty. In MDMF it is 2 * 2^d - 1
+    /// hashes, where d is the least number with 2^d at least the number of segments, and without data it is empty.
     pub block_tree: &'a [u8],
-    /// The fifth part: segment size / k bytes.
+    /// The share data: data length / k bytes, rounded up, and in MDMF 16 more for each segment.
     pub share_data: &'a [u8],
-    /// The sixth part, not empty.
+    /// The encrypted private key, not empty.
     pub encrypted_private_key: &'a [u8],
+    /// Which edition it is of, and what that edition alone has.
+    pub edition: NewEdition<'a>,
+}
+
+/// The edition of a [`NewShare`], and what a share of that edition alone is written from.
+#[derive(Clone, Copy, PartialEq, Eq)]
+pub enum NewEdition<'a> {
+    /// An SDMF share. Its segment size is the least multiple of k at or above the data length, and must be below 2^64.
+    Sdmf {
+        /// IV, the initialization vector.
+        iv: [u8; 16],
+    },
+    /// An MDMF share, with data length / segment size segments, rounded up, and none without data.
+    Mdmf {
+        /// The segment size: a multiple of k, and 0 without data only.
+        segment_size: u64,
+        /// The spare bytes, any number of any bytes.
+        spare: &'a [u8],
+    },
+}
+
+impl NewEdition<'_> {
+    /// Which edition it is.
+    pub fn edition(&self) -> Edition {
+        match self {
+            NewEdition::Sdmf { .. } => Edition::Sdmf,
+            NewEdition::Mdmf { .. } => Edition::Mdmf,
+        }
+    }
 }
 
 impl<'a> NewShare<'a> {
@@ -239,10 +459,8 @@ impl<'a> NewShare<'a> {
     /// Parts may overlap, so that their lengths can add up to more than a `usize` holds. It is [`usize::MAX`] then,
     /// and there is no space of that length.
     pub fn written_len(&self) -> usize {
-        let lengths = self.parts().map(<[u8]>::len);
-        lengths
-            .into_iter()
-            .fold(VERIFICATION_KEY, usize::saturating_add)
+        let lengths = self.parts().map(|(_, bytes)| bytes.len());
+        lengths.fold(self.header_len(), usize::saturating_add)
     }
 
     /// Writes the share into the first bytes of the space, and gives it as [`Share::check`] would. The bytes behind it
@@ -254,26 +472,45 @@ impl<'a> NewShare<'a> {
             return Err(error.unwrap_or_else(|| no_outcome(written.number)));
         }
         // That the check accepts it with these bounds is proved of the library.
-        let mut bounds = [VERIFICATION_KEY; 7];
-        for (part, bytes) in self.parts().iter().enumerate() {
-            bounds[part + 1] = bounds[part] + bytes.len();
+        let length = written.length as usize;
+        let mut bounds = [length; 8];
+        let mut start = self.header_len();
+        for (bound, (_, bytes)) in bounds.iter_mut().zip(self.parts()) {
+            *bound = start;
+            start += bytes.len();
         }
         Ok(Share {
-            bytes: &space[..written.length as usize],
+            bytes: &space[..length],
+            edition: self.edition.edition(),
             bounds,
         })
     }
 
-    /// All six parts, in the order in which they are written.
-    pub fn parts(&self) -> [&'a [u8]; 6] {
-        [
-            self.verification_key,
-            self.signature,
-            self.hash_chain,
-            self.block_tree,
-            self.share_data,
-            self.encrypted_private_key,
-        ]
+    fn header_len(&self) -> usize {
+        self.edition.edition().header().len
+    }
+
+    /// A part by its name; of SDMF the spare one is empty.
+    pub fn part(&self, part: Part) -> &'a [u8] {
+        match part {
+            Part::VerificationKey => self.verification_key,
+            Part::Signature => self.signature,
+            Part::HashChain => self.hash_chain,
+            Part::BlockTree => self.block_tree,
+            Part::ShareData => self.share_data,
+            Part::EncryptedPrivateKey => self.encrypted_private_key,
+            Part::Spare => match self.edition {
+                NewEdition::Sdmf { .. } => &[],
+                NewEdition::Mdmf { spare, .. } => spare,
+            },
+        }
+    }
+
+    /// The parts with their names, in the order in which they are written: six in SDMF, seven in MDMF.
+    pub fn parts(&self) -> impl ExactSizeIterator<Item = (Part, &'a [u8])> + Clone + use<'a> {
+        let share = *self;
+        let parts = self.edition.edition().parts().iter();
+        parts.map(move |part| (*part, share.part(*part)))
     }
 
     /// The same numbers and parts, as [`ffi::write_share`] takes them.
@@ -281,7 +518,6 @@ impl<'a> NewShare<'a> {
         ShareArguments {
             sequence_number: self.sequence_number,
             root_hash: &self.root_hash,
-            iv: &self.iv,
             k: self.k,
             n: self.n,
             data_length: self.data_length,
@@ -291,21 +527,30 @@ impl<'a> NewShare<'a> {
             block_tree: self.block_tree,
             share_data: self.share_data,
             encrypted_private_key: self.encrypted_private_key,
+            edition: match &self.edition {
+                NewEdition::Sdmf { iv } => EditionArguments::Sdmf { iv },
+                NewEdition::Mdmf {
+                    segment_size,
+                    spare,
+                } => EditionArguments::Mdmf {
+                    segment_size: *segment_size,
+                    spare,
+                },
+            },
         }
     }
 }
 
-/// What a checked share is written from: written again, it is the same share.
+/// What a checked share is written from: written again, it is the same share, of the same edition.
 ///
 /// ```
-/// use beamsatchel_node::{NewShare, Share};
+/// use beamsatchel_node::{NewEdition, NewShare, Share};
 ///
 /// # fn main() -> Result<(), beamsatchel_node::Error> {
 /// # let mut bytes = [0; 150];
 /// # let first = NewShare {
 /// #     sequence_number: 1,
 /// #     root_hash: [0x52; 32],
-/// #     iv: [0x49; 16],
 /// #     k: 1,
 /// #     n: 1,
 /// #     data_length: 8,
@@ -315,6 +560,7 @@ impl<'a> NewShare<'a> {
 /// #     block_tree: &[0xB7; 32],
 /// #     share_data: b"VAN1 21C",
 /// #     encrypted_private_key: b"P",
+/// #     edition: NewEdition::Sdmf { iv: [0x49; 16] },
 /// # };
 /// # first.write(&mut bytes)?;
 /// let share = Share::check(&bytes)?;
@@ -327,10 +573,10 @@ impl<'a> NewShare<'a> {
 /// let next = NewShare {
 ///     sequence_number: share.sequence_number() + 1,
 ///     root_hash: [0x53; 32],
-///     iv: [0x4A; 16],
 ///     signature: b"T",
 ///     block_tree: &[0xB8; 32],
 ///     share_data: b"VAN1 19C",
+///     edition: NewEdition::Sdmf { iv: [0x4A; 16] },
 ///     ..same
 /// };
 /// let next = next.write(&mut space)?;
@@ -344,7 +590,6 @@ impl<'a> From<Share<'a>> for NewShare<'a> {
         NewShare {
             sequence_number: share.sequence_number(),
             root_hash: share.root_hash(),
-            iv: share.iv(),
             k: share.k(),
             n: share.n(),
             data_length: share.data_length(),
@@ -354,6 +599,13 @@ impl<'a> From<Share<'a>> for NewShare<'a> {
             block_tree: share.block_tree(),
             share_data: share.share_data(),
             encrypted_private_key: share.encrypted_private_key(),
+            edition: match share.iv() {
+                Some(iv) => NewEdition::Sdmf { iv },
+                None => NewEdition::Mdmf {
+                    segment_size: share.segment_size(),
+                    spare: share.spare(),
+                },
+            },
         }
     }
 }
@@ -361,13 +613,28 @@ impl<'a> From<Share<'a>> for NewShare<'a> {
 /// Numbers and lengths, as of a [`Share`].
 impl fmt::Debug for NewShare<'_> {
     fn fmt(&self, f: &mut fmt::Formatter<'_>) -> fmt::Result {
+        let lengths: Vec<usize> = self.parts().map(|(_, bytes)| bytes.len()).collect();
         f.debug_struct("NewShare")
+            .field("edition", &self.edition)
             .field("sequence_number", &self.sequence_number)
             .field("k", &self.k)
             .field("n", &self.n)
             .field("data_length", &self.data_length)
-            .field("part_lens", &self.parts().map(<[u8]>::len))
+            .field("part_lens", &lengths)
             .finish_non_exhaustive()
+    }
+}
+
+/// The edition and its number.
+impl fmt::Debug for NewEdition<'_> {
+    fn fmt(&self, f: &mut fmt::Formatter<'_>) -> fmt::Result {
+        match self {
+            NewEdition::Sdmf { .. } => f.debug_struct("Sdmf").finish_non_exhaustive(),
+            NewEdition::Mdmf { segment_size, .. } => f
+                .debug_struct("Mdmf")
+                .field("segment_size", segment_size)
+                .finish_non_exhaustive(),
+        }
     }
 }
 
@@ -392,17 +659,19 @@ pub enum NewShareError {
     Space = 7,
     /// 23: k is 0 or above N.
     Coding = 23,
-    /// 24: the segment size would be 2^64 or more.
+    /// 24: the segment size of SDMF would be 2^64 or more, or that of MDMF is no multiple of k, or 0 with data.
     SegmentSize = 24,
-    /// 25: verification key, signature or encrypted private key is empty, or an offset does not fit its field. Those
-    /// of signature, hash chain, block tree and share data have 4 bytes.
+    /// 25: verification key, signature or encrypted private key is empty, or an offset of SDMF does not fit its field.
+    /// Those of signature, hash chain, block tree and share data have 4 bytes there.
     Offsets = 25,
     /// 26: the hash chain is not c entries of 34 bytes, where c is the least number with 2^c at least N, or a node
     /// number repeats or is 2 * 2^c - 1 or more.
     HashChain = 26,
-    /// 27: the block tree is not 32 bytes, nor empty with data length 0.
+    /// 27: the block tree of SDMF is not 32 bytes, nor empty with data length 0; or that of MDMF is not 2 * 2^d - 1
+    /// hashes of 32 bytes, where d is the least number with 2^d at least the number of segments, or without data not
+    /// empty.
     BlockTree = 27,
-    /// 28: the share data is not segment size / k bytes, which is data length / k, rounded up.
+    /// 28: the share data is not data length / k bytes, rounded up, and in MDMF 16 more for each segment.
     ShareData = 28,
     /// 29: the sequence number is 2^64-1.
     SequenceNumber = 29,
@@ -437,16 +706,24 @@ impl NewShareError {
         match self {
             NewShareError::Space => "The space is shorter than the share.",
             NewShareError::Coding => Reason::ShareCoding.sentence(),
-            NewShareError::SegmentSize => "The share's segment size would be 2^64 or more.",
+            NewShareError::SegmentSize => {
+                "The share's segment size would be 2^64 or more (SDMF), or is no multiple of k, or 0 with data (MDMF)."
+            }
             NewShareError::Offsets => {
-                "The share's verification key, signature or private key is empty, or an offset does not fit its field."
+                "The share's verification key, signature or private key is empty, \
+                 or an offset does not fit its field (SDMF)."
             }
             NewShareError::HashChain => {
                 "The hash chain is not c entries of 34 bytes (c least with 2^c at least N), \
                  or a node number repeats or is 2 * 2^c - 1 or more."
             }
-            NewShareError::BlockTree => "The block tree is not 32 bytes long, nor empty with data length 0.",
-            NewShareError::ShareData => "The share data is not data length / k bytes long, rounded up.",
+            NewShareError::BlockTree => {
+                "The block tree is not 32 bytes long, nor empty with data length 0 (SDMF), or not 32(2 * 2^d - 1), \
+                 d least with 2^d at least the number of segments, nor empty without any (MDMF)."
+            }
+            NewShareError::ShareData => {
+                "The share data is not data length / k bytes long, rounded up, and 16 more for each segment (MDMF)."
+            }
             NewShareError::SequenceNumber => Reason::ShareSequence.sentence(),
         }
     }

@@ -6,7 +6,8 @@ mod common;
 
 use beamsatchel_node::ffi::RawAnswer;
 use beamsatchel_node::{
-    Answer, BuildError, Container, Error, NewShareError, Reason, Reply, TestAndWrite, Written,
+    Answer, BuildError, Container, Edition, Error, NewShareError, Reason, Reply, TestAndWrite,
+    Written,
 };
 use common::{fresh, new_share, ENABLER, NODE};
 
@@ -23,18 +24,19 @@ const REASONS: [(Reason, u32, &str); 20] = [
     (Reason::LeasesFull, 10, "There are 64 leases, none with the renewal token."),
     (Reason::NoRoom, 11, "The result would not fit the container's buffer."),
     (Reason::AlreadyContainer, 12, "The buffer begins with a container's magic."),
-    (Reason::ShareShort, 21, "The share is shorter than its 107-byte header."),
-    (Reason::ShareVersion, 22, "The share's version is not 0."),
+    (Reason::ShareShort, 21, "The share is shorter than its header, 107 bytes in SDMF and 123 in MDMF."),
+    (Reason::ShareVersion, 22, "The share's version is neither 0 (SDMF) nor 1 (MDMF)."),
     (Reason::ShareCoding, 23, "The share's k is 0 or above its N."),
     (
         Reason::ShareSegmentSize,
         24,
-        "The share's segment size is not the least multiple of k at or above its data length.",
+        "The share's segment size is not the least multiple of k at or above its data length (SDMF), \
+         or is no multiple of k, or 0 with data (MDMF).",
     ),
     (
         Reason::ShareOffsets,
         25,
-        "The share's offsets are not in order, or do not end with its last byte.",
+        "The share's offsets are not in order, or do not reach from its header to its last byte.",
     ),
     (
         Reason::ShareHashChain,
@@ -44,9 +46,13 @@ const REASONS: [(Reason, u32, &str); 20] = [
     (
         Reason::ShareBlockTree,
         27,
-        "The share's block tree has another length than its data length asks.",
+        "The share's block tree has another length than its number of segments asks.",
     ),
-    (Reason::ShareData, 28, "The share's data is not segment size / k bytes long."),
+    (
+        Reason::ShareData,
+        28,
+        "The share's data is not data length / k bytes long, rounded up, and 16 more for each segment (MDMF).",
+    ),
     (
         Reason::ShareSequence,
         29,
@@ -142,7 +148,7 @@ fn every_error_converts_into_one() {
         Ok(())
     }
     fn write() -> Result<(), Error> {
-        new_share().write(&mut [])?;
+        new_share(Edition::Sdmf).write(&mut [])?;
         Ok(())
     }
     let refused = refuse().unwrap_err();

@@ -1,10 +1,11 @@
-//! Bad input through each of the six functions of the C interface: empty slices and lengths at the edges of what is
+//! Bad input through each of the seven functions of the C interface: empty slices and lengths at the edges of what is
 //! allowed, for every argument.
 
 mod common;
 
 use beamsatchel_model as model;
-use beamsatchel_node::ffi::{self, ShareArguments};
+use beamsatchel_node::ffi::{self, EditionArguments, ShareArguments};
+use beamsatchel_node::Edition;
 use common::raw::{reads, write, ENABLER};
 
 const LENGTHS: [usize; 8] = [0, 1, 471, 472, 473, 65_537, LONGEST, LONGEST + 1];
@@ -177,54 +178,89 @@ fn create_takes_any_lengths() {
 fn checks_take_any_lengths() {
     for buffer in buffers() {
         let in_container = ffi::check_container(&buffer);
-        assert_eq!(in_container.number, model::check_container(&buffer).number);
-        let bare = ffi::check_share(&buffer);
-        assert_eq!(bare.number, model::check_share(&buffer).number);
-        assert_eq!((in_container.bounds, bare.bounds), ([0; 7], [0; 7]));
+        let modelled = model::check_container(&buffer);
+        assert_eq!(
+            (in_container.number, in_container.edition),
+            (modelled.number, modelled.edition)
+        );
+        assert_eq!(in_container.bounds, [0; 8]);
+        // As it is, and as an SDMF or MDMF share.
+        let mut bare = buffer;
+        assert_ne!(common::check_share(&bare).number, 0);
+        for version in [0, 1] {
+            bare.iter_mut().take(1).for_each(|byte| *byte = version);
+            assert_ne!(common::check_share(&bare).number, 0);
+        }
     }
 }
 
-/// Every slice of the writer at each length, beside good ones and beside empty ones; every length of the space.
+/// Every slice of both writers at each length, beside good ones and beside empty ones; every length of the space.
 #[test]
 fn write_share_takes_any_lengths() {
     let bytes = vec![0; 65_537];
-    // R, IV and the six parts of a share of k = 1 and N = 2, whose one node number is 0.
-    let good = [32, 16, 292, 256, 34, 32, 10, 1216];
-    let mut lengths = vec![good, [0; 8]];
-    for slice in 0..8 {
-        for length in [0, 1, 15, 16, 17, 31, 32, 33, 34, 35, 65_537] {
-            for mut beside in [good, [0; 8]] {
-                beside[slice] = length;
-                lengths.push(beside);
+    for edition in Edition::ALL {
+        // R, IV or spare bytes, and the six parts of a share of k = 1 and N = 2, whose one node number is 0.
+        let good = match edition {
+            Edition::Sdmf => [32, 16, 292, 256, 34, 32, 10, 1216],
+            Edition::Mdmf => [32, 5, 292, 256, 34, 32, 26, 1216],
+        };
+        let mut lengths = vec![good, [0; 8]];
+        for slice in 0..8 {
+            for length in [0, 1, 15, 16, 17, 31, 32, 33, 34, 35, 65_537] {
+                for mut beside in [good, [0; 8]] {
+                    beside[slice] = length;
+                    lengths.push(beside);
+                }
             }
         }
-    }
-    let mut met = [0; 30];
-    for lengths in lengths {
-        let slices = lengths.map(|length| &bytes[..length]);
-        let needed = 107 + lengths[2..].iter().sum::<usize>();
-        for space in [0, 1, 106, 107, needed - 1, needed, needed + 1, 65_537] {
-            for (k, n, data_length) in [(1, 2, 10), (0, 0, 0), (255, 254, 0), (2, 3, u64::MAX)] {
-                let share = ShareArguments {
-                    sequence_number: 1,
-                    root_hash: slices[0],
-                    iv: slices[1],
-                    k,
-                    n,
-                    data_length,
-                    verification_key: slices[2],
-                    signature: slices[3],
-                    hash_chain: slices[4],
-                    block_tree: slices[5],
-                    share_data: slices[6],
-                    encrypted_private_key: slices[7],
-                };
-                let (number, _) = common::write_share(&share, &mut vec![0xA5; space]);
-                met[number as usize] += 1;
+        let mut met = [0; 30];
+        for lengths in lengths {
+            let slices = lengths.map(|length| &bytes[..length]);
+            let header = edition.header().len;
+            let counted = match edition {
+                Edition::Sdmf => &lengths[2..],
+                Edition::Mdmf => &lengths[1..],
+            };
+            let needed = header + counted.iter().sum::<usize>();
+            for space in [
+                0,
+                1,
+                header - 1,
+                header,
+                needed - 1,
+                needed,
+                needed + 1,
+                65_537,
+            ] {
+                for (k, n, data_length) in [(1, 2, 10), (0, 0, 0), (255, 254, 0), (2, 3, u64::MAX)]
+                {
+                    let share = ShareArguments {
+                        sequence_number: 1,
+                        root_hash: slices[0],
+                        k,
+                        n,
+                        data_length,
+                        verification_key: slices[2],
+                        signature: slices[3],
+                        hash_chain: slices[4],
+                        block_tree: slices[5],
+                        share_data: slices[6],
+                        encrypted_private_key: slices[7],
+                        edition: match edition {
+                            Edition::Sdmf => EditionArguments::Sdmf { iv: slices[1] },
+                            Edition::Mdmf => EditionArguments::Mdmf {
+                                segment_size: data_length,
+                                spare: slices[1],
+                            },
+                        },
+                    };
+                    let (number, _) = common::write_share(&share, &mut vec![0xA5; space]);
+                    met[number as usize] += 1;
+                }
             }
         }
-    }
-    for number in [0, 3, 7, 23, 24, 25, 26, 27, 28] {
-        assert!(met[number] > 0, "outcome {number} was never met");
+        for number in [0, 3, 7, 23, 24, 25, 26, 27, 28] {
+            assert!(met[number] > 0, "{edition}: outcome {number} was never met");
+        }
     }
 }

@@ -4,10 +4,10 @@ mod common;
 
 use beamsatchel_model as model;
 use beamsatchel_node::{
-    ffi, CancelToken, Container, Lease, NodeId, Offset, Opcode, ReadData, Reason, Refusal,
-    RenewalToken, Reply, Share, TestAndWrite, View, WriteEnabler, Written,
+    ffi, CancelToken, Container, Edition, Lease, NodeId, Offset, Opcode, Part, ReadData, Reason,
+    Refusal, RenewalToken, Reply, Share, TestAndWrite, View, WriteEnabler, Written,
 };
-use common::{bad_share, cut, fresh, lease, rising, share, slot, with_data, BOUNDS, ENABLER, NODE};
+use common::{bad_share, bounds, cut, fresh, lease, rising, share, slot, with_data, ENABLER, NODE};
 
 fn reason<T>(result: Result<T, Refusal>) -> Reason {
     result.err().expect("refused").reason
@@ -85,13 +85,14 @@ fn open_asks_for_a_container_alone() {
     );
 
     // Whether the data is a share, and a good one, does not matter.
-    let mut shares: Vec<Vec<u8>> = (21..=29).map(bad_share).collect();
-    shares.push(share());
-    for data in shares {
-        let bytes = slot(2000, &data);
-        let opened = Container::open(&bytes).unwrap();
-        assert_eq!(opened.as_bytes(), bytes);
-        assert!(View::open(&bytes).is_ok());
+    for edition in Edition::ALL {
+        let bad = (21..=29).map(|number| bad_share(edition, number));
+        for data in bad.chain([share(edition)]) {
+            let bytes = slot(2000, &data);
+            let opened = Container::open(&bytes).unwrap();
+            assert_eq!(opened.as_bytes(), bytes);
+            assert!(View::open(&bytes).is_ok());
+        }
     }
 }
 
@@ -432,16 +433,19 @@ fn reading_needs_no_writing() {
 
 #[test]
 fn the_share_is_the_containers_data() {
-    let bytes = slot(2000, &share());
-    let opened = Container::open(&bytes[..]).unwrap();
-    let found = opened.share().unwrap();
-    assert_eq!(found, Share::in_container(&bytes).unwrap());
-    let first = found.verification_key();
-    let place = 468 + BOUNDS[0]..468 + BOUNDS[1];
-    assert_eq!(first.as_ptr_range(), bytes[place].as_ptr_range());
-    for number in 21..=29 {
-        let opened = Container::open(slot(2000, &bad_share(number))).unwrap();
-        assert_eq!(reason(opened.share()).number(), number);
+    for edition in Edition::ALL {
+        let bytes = slot(2000, &share(edition));
+        let opened = Container::open(&bytes[..]).unwrap();
+        let found = opened.share().unwrap();
+        assert_eq!(found, Share::in_container(&bytes).unwrap());
+        assert_eq!(found.edition(), edition);
+        let (_, first) = found.parts().next().unwrap();
+        let place = 468 + bounds(edition)[0]..468 + bounds(edition)[1];
+        assert_eq!(first.as_ptr_range(), bytes[place].as_ptr_range());
+        for number in 21..=29 {
+            let opened = Container::open(slot(2000, &bad_share(edition, number))).unwrap();
+            assert_eq!(reason(opened.share()).number(), number);
+        }
     }
 }
 
@@ -490,6 +494,8 @@ fn values_have_their_traits() {
     key::<NodeId>();
     key::<Reason>();
     key::<Opcode>();
+    key::<Edition>();
+    key::<Part>();
     copied::<View>();
     copied::<Lease>();
     copied::<Reply>();

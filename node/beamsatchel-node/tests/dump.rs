@@ -2,7 +2,8 @@
 
 mod common;
 
-use common::{bad_share, cut, fresh, lease, share, slot, with_data, BOUNDS, ENABLER};
+use beamsatchel_node::Edition;
+use common::{bad_share, bounds, cut, fresh, lease, share, slot, with_data, ENABLER};
 use std::ffi::{OsStr, OsString};
 use std::fs::{self, File};
 use std::io::{Read, Write};
@@ -64,14 +65,16 @@ fn hex(bytes: &[u8]) -> String {
 }
 
 /// The words for [`slot`] with [`share`] as data, with the secrets as `secret` shows them.
-fn words_of_slot(secret: impl Fn(&[u8; 32]) -> String) -> String {
+fn words_of_slot(edition: Edition, secret: impl Fn(&[u8; 32]) -> String) -> String {
     let enabler = secret(ENABLER.expose());
+    let size = bounds(edition)[7];
+    let (used, data_end) = (748 + size, 468 + size);
     let mut words = format!(
-        "  buffer         2000 bytes, 1303 in use
+        "  buffer         2000 bytes, {used} in use
   node id        05060708090a0b0c0d0e0f101112131415161718
   write enabler  {enabler}
-  data           555 bytes at byte 468
-  slack          0 bytes at byte 1023
+  data           {size} bytes at byte 468
+  slack          0 bytes at byte {data_end}
   leases         2 present, in 4 places and 3 extra
 "
     );
@@ -91,7 +94,9 @@ fn words_of_slot(secret: impl Fn(&[u8; 32]) -> String) -> String {
         );
     }
     words
-        + "  share          SDMF, sequence number 72623859790382856, any 3 of 10 shares
+        + match edition {
+            Edition::Sdmf => {
+                "  share          SDMF, sequence number 72623859790382856, any 3 of 10 shares
     root hash              090a0b0c0d0e0f101112131415161718191a1b1c1d1e1f202122232425262728
     IV                     606162636465666768696a6b6c6d6e6f
     segment size           771
@@ -103,20 +108,41 @@ fn words_of_slot(secret: impl Fn(&[u8; 32]) -> String) -> String {
     share data             257 bytes at byte 755
     encrypted private key  11 bytes at byte 1012
 "
+            }
+            Edition::Mdmf => {
+                "  share          MDMF, sequence number 72623859790382856, any 3 of 10 shares
+    root hash              090a0b0c0d0e0f101112131415161718191a1b1c1d1e1f202122232425262728
+    segment size           288
+    data length            770
+    segments               3
+    encrypted private key  11 bytes at byte 591
+    hash chain             136 bytes at byte 602
+    signature              7 bytes at byte 738
+    verification key       5 bytes at byte 745
+    spare                  9 bytes at byte 750
+    share data             305 bytes at byte 759
+    block tree             224 bytes at byte 1064
+"
+            }
+        }
 }
 
 #[test]
 fn secrets_are_not_shown() {
-    let bytes = slot(2000, &share());
-    let hidden = words_of_slot(|_| "(not shown)".to_string());
-    assert_eq!(dump("hidden", &[], &bytes), (hidden, 0));
+    for edition in Edition::ALL {
+        let bytes = slot(2000, &share(edition));
+        let hidden = words_of_slot(edition, |_| "(not shown)".to_string());
+        assert_eq!(dump("hidden", &[], &bytes), (hidden, 0));
+    }
 }
 
 #[test]
 fn secrets_are_shown_when_asked_for() {
-    let bytes = slot(2000, &share());
-    let shown = words_of_slot(|secret| hex(secret));
-    assert_eq!(dump("shown", &["--secrets"], &bytes), (shown, 0));
+    for edition in Edition::ALL {
+        let bytes = slot(2000, &share(edition));
+        let shown = words_of_slot(edition, |secret| hex(secret));
+        assert_eq!(dump("shown", &["--secrets"], &bytes), (shown, 0));
+    }
 }
 
 /// Sixteen bytes to a row; what is not printable ASCII is a point; the last row is short, and its text stands below
@@ -177,7 +203,7 @@ fn a_fresh_container() {
   data           0 bytes at byte 468
   slack          0 bytes at byte 468
   leases         0 present, in 4 places and 0 extra
-  share          none, outcome 21: The share is shorter than its 107-byte header.
+  share          none, outcome 21: The share is shorter than its header, 107 bytes in SDMF and 123 in MDMF.
                  at byte 468
 ";
     assert_eq!((&words[..], code), (expected, 0));
@@ -213,22 +239,16 @@ fn slack_is_told_of() {
 /// Each field or part that a share is refused for begins at a byte that no other begins at.
 #[test]
 fn a_bad_share_names_the_byte() {
-    for (number, byte) in [
-        (21, 106),
-        (22, 0),
-        (23, 57),
-        (24, 59),
-        (25, 75),
-        (26, BOUNDS[2]),
-        (27, BOUNDS[3]),
-        // The first byte of the data, which ends too late.
-        (28, BOUNDS[4]),
-        (29, 1),
-    ] {
-        let (words, code) = dump("bad-share", &[], &slot(2000, &bad_share(number)));
+    let sdmf = [106, 0, 57, 59, 75, 119, 255, 287, 1].map(|byte| (Edition::Sdmf, byte));
+    // The tree that is refused begins a byte too late.
+    let mdmf = [122, 0, 41, 43, 59, 134, 597, 291, 1].map(|byte| (Edition::Mdmf, byte));
+    for (number, (edition, byte)) in (21..=29).zip(sdmf).chain((21..=29).zip(mdmf)) {
+        let bad = bad_share(edition, number);
+        let (words, code) = dump("bad-share", &[], &slot(2000, &bad));
         let mut last = words.lines().rev();
-        let at = match number {
-            25 => "among the six offsets from byte",
+        let at = match (number, edition) {
+            (25, Edition::Sdmf) => "among the six offsets from byte",
+            (25, Edition::Mdmf) => "among the eight offsets from byte",
             _ => "at byte",
         };
         let at = format!("                 {at} {}", 468 + byte);

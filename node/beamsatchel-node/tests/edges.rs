@@ -3,8 +3,9 @@
 mod common;
 
 use beamsatchel_model as model;
-use beamsatchel_node::ffi::{self, ShareArguments};
+use beamsatchel_node::ffi::{self, EditionArguments, ShareArguments};
 use common::raw::{add, append, cancel, reads, test_and_write, write, Write, ENABLER, NODE};
+use std::sync::LazyLock;
 
 /// Applies a request by the library and by the model, which must agree.
 fn apply(container: &mut [u8], request: &[u8], reply: &mut [u8]) -> (u32, u64) {
@@ -921,19 +922,17 @@ fn share() -> Vec<u8> {
 #[test]
 fn the_share() {
     let good = share();
-    let checked = ffi::check_share(&good);
-    assert_eq!(checked.number, 0);
-    assert_eq!(checked.bounds, [107, 399, 655, 791, 823, 827, 2043]);
-    assert_eq!(model::check_share(&good).bounds, checked.bounds);
+    let checked = common::check_share(&good);
+    assert_eq!((checked.number, checked.edition), (0, 0));
+    assert_eq!(checked.bounds, [107, 399, 655, 791, 823, 827, 2043, 2043]);
 
     let mut segment = good.clone();
     segment[66] = 10;
     let mut node_number = good;
     node_number[655 + 34 + 1] = 31;
     for (share, number) in [(segment, 24), (node_number, 26)] {
-        let checked = ffi::check_share(&share);
-        assert_eq!((checked.number, checked.bounds), (number, [0; 7]));
-        assert_eq!(model::check_share(&share).number, number);
+        let checked = common::check_share(&share);
+        assert_eq!((checked.number, checked.bounds), (number, [0; 8]));
     }
 }
 
@@ -941,9 +940,7 @@ fn the_share() {
 fn the_share_in_a_container() {
     let mut container = fresh(4096);
     assert_eq!(number(&mut container, &write(&[(0, &share())], None)), 0);
-    let parts = beamsatchel_node::Share::in_container(&container)
-        .unwrap()
-        .parts();
+    let share = beamsatchel_node::Share::in_container(&container).unwrap();
     let inside = &container[468..];
     let expected = [
         &inside[107..399],
@@ -954,10 +951,8 @@ fn the_share_in_a_container() {
         &inside[827..2043],
     ];
     // The very bytes of the container, not equal ones elsewhere.
-    assert_eq!(
-        parts.map(<[u8]>::as_ptr_range),
-        expected.map(<[u8]>::as_ptr_range)
-    );
+    let ranges = share.parts().map(|(_, part)| part.as_ptr_range());
+    assert!(ranges.eq(expected.map(<[u8]>::as_ptr_range)));
 
     // A byte after the share inside the data is not the share's end.
     assert_eq!(number(&mut container, &write(&[(2043, b"\0")], None)), 0);
@@ -979,7 +974,6 @@ fn p11(hash_chain: &[u8]) -> ShareArguments<'_> {
     ShareArguments {
         sequence_number: 1,
         root_hash: &[1; 32],
-        iv: &[2; 16],
         k: 3,
         n: 10,
         data_length: 10,
@@ -989,6 +983,7 @@ fn p11(hash_chain: &[u8]) -> ShareArguments<'_> {
         block_tree: &[6; 32],
         share_data: &[7; 4],
         encrypted_private_key: &[8; 1216],
+        edition: EditionArguments::Sdmf { iv: &[2; 16] },
     }
 }
 
@@ -1007,11 +1002,11 @@ fn shortest() -> ShareArguments<'static> {
     }
 }
 
-/// Writes a share into so many bytes 9; gives number and length. On a refusal, which has no length, all of them stay.
+/// Writes a share into so many bytes 255; gives number and length. On a refusal, which has no length, all of them stay.
 fn into(space: usize, share: ShareArguments) -> (u32, u64) {
-    let mut after = vec![9; space];
+    let mut after = vec![255; space];
     let (number, length) = common::write_share(&share, &mut after);
-    assert!(after[length as usize..].iter().all(|byte| *byte == 9));
+    assert!(after[length as usize..].iter().all(|byte| *byte == 255));
     (number, length)
 }
 
@@ -1025,7 +1020,8 @@ fn p21_lengths_and_space_come_before_the_rest() {
         assert_eq!(into(0, ShareArguments { root_hash, ..good }), (3, 0));
     }
     for iv in [&[2; 15][..], &[2; 17]] {
-        assert_eq!(into(0, ShareArguments { iv, ..good }), (3, 0));
+        let edition = EditionArguments::Sdmf { iv };
+        assert_eq!(into(0, ShareArguments { edition, ..good }), (3, 0));
     }
     assert_eq!(into(2042, ShareArguments { k: 0, ..good }), (7, 0));
     let share_data = &[7; 5];
@@ -1141,12 +1137,9 @@ fn p27_a_share_without_data() {
     assert_eq!(into(111, with_share_data), (28, 0));
 }
 
-#[test]
-fn p28_every_byte_of_the_space() {
-    let mut space = [0xFF; 2050];
-    let written = common::write_share(&p11(&hash_chain(&[2, 4, 8, 16])), &mut space);
-    assert_eq!(written, (0, 2043));
-    let expected = [
+/// The bytes of P11's share, with those of its fields and parts here.
+fn p28() -> Vec<u8> {
+    let bytes = [
         &[0][..],                        // version
         &[0, 0, 0, 0, 0, 0, 0, 1],       // sequence number
         &[1; 32],                        // R
@@ -1173,11 +1166,361 @@ fn p28_every_byte_of_the_space() {
         &[6; 32],   // tree
         &[7; 4],    // share data
         &[8; 1216], // private key
-        &[0xFF; 7], // behind the share
     ];
-    assert_eq!(space[..], expected.concat());
-    // It is the share of P11, with other bytes in its fields and parts.
-    let checked = ffi::check_share(&space[..2043]);
-    assert_eq!(checked.number, 0);
-    assert_eq!(checked.bounds, [107, 399, 655, 791, 823, 827, 2043]);
+    bytes.concat()
+}
+
+#[test]
+fn p28_every_byte_of_the_space() {
+    let mut space = [255; 2050];
+    let written = common::write_share(&p11(&hash_chain(&[2, 4, 8, 16])), &mut space);
+    assert_eq!(written, (0, 2043));
+    assert_eq!(space[..], [&p28()[..], &[255; 7]].concat());
+}
+
+static P45_CHAIN: LazyLock<Vec<u8>> = LazyLock::new(|| hash_chain(&[2, 4, 8, 16]));
+
+/// The MDMF share of P45: two segments of up to 6 bytes, so a salt and 2 bytes for each, and a tree of three hashes.
+fn p45() -> ShareArguments<'static> {
+    ShareArguments {
+        sequence_number: 1,
+        root_hash: &[1; 32],
+        k: 3,
+        n: 10,
+        data_length: 10,
+        verification_key: &[3; 3],
+        signature: &[5; 4],
+        hash_chain: &P45_CHAIN,
+        block_tree: &[6; 96],
+        share_data: &[7; 36],
+        encrypted_private_key: &[8; 5],
+        edition: EditionArguments::Mdmf {
+            segment_size: 6,
+            spare: &[9; 2],
+        },
+    }
+}
+
+/// P45's share with another k, segment size and data length, and with share data and a tree of so many bytes.
+fn segmented(
+    (k, segment_size, data_length): (u8, u64, u64),
+    share_data: usize,
+    block_tree: usize,
+) -> ShareArguments<'static> {
+    ShareArguments {
+        k,
+        data_length,
+        block_tree: &[6; 480][..block_tree],
+        share_data: &[7; 96][..share_data],
+        edition: EditionArguments::Mdmf {
+            segment_size,
+            spare: &[9; 2],
+        },
+        ..p45()
+    }
+}
+
+/// A share, the bytes of the space for it, and what writing it gives: number and length.
+type Writing<'a> = (ShareArguments<'a>, usize, u32, u64);
+
+fn give(writings: &[Writing]) {
+    for (share, space, number, length) in writings {
+        let given = into(*space, *share);
+        assert_eq!(given, (*number, *length), "into {space}: {share:?}");
+    }
+}
+
+#[test]
+fn p45_lengths_and_space_come_before_the_rest() {
+    let good = p45();
+    let with = |root_hash| ShareArguments { root_hash, ..good };
+    give(&[
+        (good, 405, 0, 405),
+        (good, 404, 7, 0),
+        (with(&[1; 31]), 0, 3, 0),
+        (with(&[1; 33]), 0, 3, 0),
+        (segmented((0, 6, 10), 36, 96), 404, 7, 0),
+    ]);
+}
+
+#[test]
+fn p46_k_is_from_1_to_n() {
+    give(&[
+        (segmented((0, 6, 10), 36, 96), 405, 23, 0),
+        (segmented((11, 11, 10), 36, 96), 405, 23, 0),
+        (segmented((10, 10, 10), 17, 32), 405, 0, 322),
+    ]);
+}
+
+#[test]
+fn p47_a_segment_size_is_a_multiple_of_k() {
+    // 2^64-1 is a multiple of 3.
+    let longest = 18_446_744_073_709_551_615;
+    let no_key = ShareArguments {
+        verification_key: &[],
+        ..segmented((3, 7, 10), 36, 96)
+    };
+    give(&[
+        (segmented((3, 7, 10), 36, 96), 405, 24, 0),
+        (no_key, 405, 24, 0),
+        (segmented((3, 0, 10), 36, 96), 405, 24, 0),
+        (segmented((3, 0, 0), 0, 0), 405, 0, 273),
+        (segmented((3, 6, 0), 0, 0), 405, 0, 273),
+        (segmented((3, longest, 10), 20, 32), 405, 0, 325),
+        (segmented((2, longest, 10), 20, 32), 405, 24, 0),
+    ]);
+}
+
+#[test]
+fn p48_spare_bytes_alone_may_be_missing() {
+    let bad_chain = hash_chain(&[2, 4, 8, 31]);
+    let no_private_key = ShareArguments {
+        encrypted_private_key: &[],
+        ..p45()
+    };
+    let no_signature = ShareArguments {
+        signature: &[],
+        ..p45()
+    };
+    let no_key_and_bad_chain = ShareArguments {
+        verification_key: &[],
+        hash_chain: &bad_chain,
+        ..p45()
+    };
+    let no_spare = ShareArguments {
+        edition: EditionArguments::Mdmf {
+            segment_size: 6,
+            spare: &[],
+        },
+        ..p45()
+    };
+    give(&[
+        (no_private_key, 405, 25, 0),
+        (no_signature, 405, 25, 0),
+        (no_key_and_bad_chain, 405, 25, 0),
+        (no_spare, 405, 0, 403),
+    ]);
+}
+
+#[test]
+fn p49_node_numbers_differ_and_are_below_31() {
+    for (node_numbers, number, length) in [
+        (&[2, 4, 8, 31][..], 26, 0),
+        (&[2, 4, 8, 30], 0, 405),
+        (&[2, 4, 8, 2], 26, 0),
+        (&[2, 4, 8], 26, 0),
+    ] {
+        let share = ShareArguments {
+            hash_chain: &hash_chain(node_numbers),
+            ..p45()
+        };
+        give(&[(share, 405, number, length)]);
+    }
+}
+
+#[test]
+fn p50_a_tree_has_a_leaf_for_each_segment() {
+    give(&[
+        (segmented((3, 6, 0), 0, 32), 405, 27, 0),
+        (segmented((3, 6, 6), 18, 32), 405, 0, 323),
+        (segmented((3, 6, 6), 18, 0), 405, 27, 0),
+        (segmented((3, 6, 7), 35, 32), 405, 27, 0),
+        (segmented((3, 6, 7), 35, 64), 405, 27, 0),
+        (segmented((3, 6, 18), 54, 224), 900, 0, 551),
+        (segmented((3, 6, 18), 54, 160), 900, 27, 0),
+        (segmented((3, 6, 24), 72, 224), 900, 0, 569),
+        (segmented((3, 6, 24), 72, 480), 900, 27, 0),
+        (segmented((3, 6, 25), 89, 224), 900, 27, 0),
+        (segmented((3, 6, 25), 89, 480), 900, 0, 842),
+    ]);
+}
+
+#[test]
+fn p51_share_data_has_a_salt_for_each_segment() {
+    let longest = 18_446_744_073_709_551_615;
+    give(&[
+        (segmented((3, 6, 10), 35, 96), 405, 28, 0),
+        (segmented((3, 6, 10), 37, 96), 406, 28, 0),
+        (segmented((3, 6, 10), 4, 96), 405, 28, 0),
+        (segmented((3, 6, 10), 96, 96), 465, 28, 0),
+        (segmented((3, 6, 1), 17, 32), 405, 0, 322),
+        (segmented((3, 6, 2), 17, 32), 405, 0, 322),
+        (segmented((3, 6, 3), 17, 32), 405, 0, 322),
+        (segmented((3, 6, 4), 18, 32), 405, 0, 323),
+        (segmented((3, 6, 4), 17, 32), 405, 28, 0),
+        (segmented((3, longest, longest), 20, 32), 405, 28, 0),
+        // A third of 2^64-1 segments, for which one hash is too few.
+        (segmented((3, 3, longest), 20, 32), 405, 27, 0),
+    ]);
+}
+
+#[test]
+fn p52_the_last_sequence_number() {
+    for (sequence_number, number, length) in [
+        (18_446_744_073_709_551_615, 29, 0),
+        (18_446_744_073_709_551_614, 0, 405),
+    ] {
+        let share = ShareArguments {
+            sequence_number,
+            ..p45()
+        };
+        give(&[(share, 405, number, length)]);
+    }
+}
+
+#[test]
+fn p53_the_shortest_of_mdmf() {
+    let shortest = ShareArguments {
+        k: 1,
+        n: 1,
+        data_length: 0,
+        verification_key: &[3],
+        signature: &[5],
+        hash_chain: &[],
+        block_tree: &[],
+        share_data: &[],
+        encrypted_private_key: &[8],
+        edition: EditionArguments::Mdmf {
+            segment_size: 0,
+            spare: &[],
+        },
+        ..p45()
+    };
+    let with_spare = ShareArguments {
+        edition: EditionArguments::Mdmf {
+            segment_size: 0,
+            spare: &[9],
+        },
+        ..shortest
+    };
+    let one_entry = ShareArguments {
+        hash_chain: &hash_chain(&[0]),
+        ..shortest
+    };
+    give(&[
+        (shortest, 126, 0, 126),
+        (with_spare, 127, 0, 127),
+        (one_entry, 160, 26, 0),
+    ]);
+}
+
+/// The bytes of P45's share.
+fn p54() -> Vec<u8> {
+    let bytes = [
+        &[1][..],                        // version
+        &[0, 0, 0, 0, 0, 0, 0, 1],       // sequence number
+        &[1; 32],                        // R
+        &[3, 0x0A],                      // k, N
+        &[0, 0, 0, 0, 0, 0, 0, 6],       // segment size
+        &[0, 0, 0, 0, 0, 0, 0, 0x0A],    // data length
+        &[0, 0, 0, 0, 0, 0, 0x00, 0x7B], // private key at 123
+        &[0, 0, 0, 0, 0, 0, 0x00, 0x80], // hash chain at 128
+        &[0, 0, 0, 0, 0, 0, 0x01, 0x08], // signature at 264
+        &[0, 0, 0, 0, 0, 0, 0x01, 0x0C], // key at 268
+        &[0, 0, 0, 0, 0, 0, 0x01, 0x0F], // the key's end, and spare bytes, at 271
+        &[0, 0, 0, 0, 0, 0, 0x01, 0x11], // share data at 273
+        &[0, 0, 0, 0, 0, 0, 0x01, 0x35], // tree at 309
+        &[0, 0, 0, 0, 0, 0, 0x01, 0x95], // end at 405
+        &[8; 5],                         // private key
+        &[0, 2],
+        &[4; 32],
+        &[0, 4],
+        &[4; 32],
+        &[0, 8],
+        &[4; 32],
+        &[0, 16],
+        &[4; 32],
+        &[5; 4],  // signature
+        &[3; 3],  // key
+        &[9; 2],  // spare
+        &[7; 36], // share data
+        &[6; 96], // tree
+    ];
+    bytes.concat()
+}
+
+#[test]
+fn p54_every_byte_of_the_space() {
+    let mut space = [255; 410];
+    assert_eq!(common::write_share(&p45(), &mut space), (0, 405));
+    assert_eq!(space[..], [&p54()[..], &[255; 5]].concat());
+}
+
+/// What the check gives: number, edition and boundaries.
+type Checked = (u32, u32, [u64; 8]);
+
+/// Checks these bytes, bare and as the data of a container, with a byte of slack behind them.
+fn checked(share: &[u8]) -> Checked {
+    let bare = common::check_share(share);
+    let inside = ffi::check_container(&with_data(4096, share, 1));
+    assert_eq!((inside.number, inside.edition), (bare.number, bare.edition));
+    let first = if bare.number == 0 { 468 } else { 0 };
+    assert_eq!(inside.bounds, bare.bounds.map(|bound| first + bound));
+    (bare.number, bare.edition, bare.bounds)
+}
+
+fn refused(number: u32, edition: u32) -> Checked {
+    (number, edition, [0; 8])
+}
+
+#[test]
+fn p55_the_header_is_that_of_the_version() {
+    assert_eq!(checked(&[]), refused(21, 0));
+    for (length, version, number, edition) in [
+        (106, 0, 21, 0),
+        (106, 1, 21, 1),
+        (106, 2, 21, 0),
+        (107, 0, 23, 0),
+        (107, 1, 21, 1),
+        (107, 2, 22, 0),
+        (122, 1, 21, 1),
+        (122, 2, 22, 0),
+        (123, 1, 23, 1),
+        (123, 2, 22, 0),
+        (123, 255, 22, 0),
+    ] {
+        let mut bytes = vec![0; length];
+        bytes[0] = version;
+        let given = checked(&bytes);
+        assert_eq!(given, refused(number, edition), "{length} of {version}");
+    }
+}
+
+#[test]
+fn p56_offsets_of_mdmf() {
+    let bounds = [123, 128, 264, 268, 271, 273, 309, 405];
+    assert_eq!(checked(&p54()), (0, 1, bounds));
+    // Which of the eight, and what it is then.
+    for (which, offset) in [
+        (0, 122_u64),
+        (0, 124),
+        (1, 123),
+        (2, 127),
+        (3, 264),
+        (4, 268),
+        (5, 270),
+        (6, 272),
+        (7, 404),
+        (7, 406),
+        (7, 18_446_744_073_709_551_615),
+    ] {
+        let mut share = p54();
+        share[59 + 8 * which..][..8].copy_from_slice(&offset.to_be_bytes());
+        assert_eq!(checked(&share), refused(25, 1), "{which} is {offset}");
+    }
+    assert_eq!(checked(&[&p54()[..], &[0]].concat()), refused(25, 1));
+}
+
+#[test]
+fn p57_the_version_of_the_other_edition() {
+    let bounds = [107, 399, 655, 791, 823, 827, 2043, 2043];
+    assert_eq!(checked(&p28()), (0, 0, bounds));
+    for (mut share, version, given) in [
+        (p28(), 1, refused(25, 1)),
+        (p54(), 0, refused(23, 0)),
+        (p54(), 2, refused(22, 0)),
+    ] {
+        share[0] = version;
+        assert_eq!(checked(&share), given);
+    }
 }

@@ -1,5 +1,5 @@
-use super::share::chain_is_good;
-use crate::{NewShare, WrittenShare};
+use super::share::{chain_is_good, sdmf_tree_is_good, unless, Segments};
+use crate::{NewEdition, NewShare, WrittenShare};
 
 /// Writes a share, as the model does.
 pub fn write_share(share: &NewShare, space: &mut [u8]) -> WrittenShare {
@@ -14,15 +14,28 @@ pub fn write_share(share: &NewShare, space: &mut [u8]) -> WrittenShare {
 
 /// The segment size, where nothing is to be refused.
 fn judge(share: &NewShare, room: usize) -> Result<u64, u32> {
-    let unless = |good: bool, number: u32| if good { Ok(()) } else { Err(number) };
-    unless(share.root_hash.len() == 32 && share.iv.len() == 16, 3)?;
+    let (header, iv_is_good) = match share.edition {
+        NewEdition::Sdmf { iv } => (107, iv.len() == 16),
+        NewEdition::Mdmf { .. } => (123, true),
+    };
+    unless(share.root_hash.len() == 32 && iv_is_good, 3)?;
     // What is left of the room: no sum that could wrap.
-    let mut left = room.checked_sub(107).ok_or(7_u32)?;
+    let mut left = room.checked_sub(header).ok_or(7_u32)?;
     for part in share.parts() {
         left = left.checked_sub(part.len()).ok_or(7_u32)?;
     }
     let k = u64::from(share.k);
     unless(k > 0 && share.k <= share.n, 23)?;
+    let segment_size = match share.edition {
+        NewEdition::Sdmf { .. } => judge_sdmf(share, k)?,
+        NewEdition::Mdmf { segment_size, .. } => judge_mdmf(share, k, segment_size)?,
+    };
+    unless(share.sequence_number != u64::MAX, 29)?;
+    Ok(segment_size)
+}
+
+/// The rows 24 to 28 of SDMF; gives the segment size.
+fn judge_sdmf(share: &NewShare, k: u64) -> Result<u64, u32> {
     let blocks = share.data_length.div_ceil(k);
     let segment_size = blocks.checked_mul(k).ok_or(24_u32)?;
     // All inside the room, so that these sums do not wrap, and the last two offsets fit.
@@ -31,33 +44,58 @@ fn judge(share: &NewShare, room: usize) -> Result<u64, u32> {
         + share.signature.len()
         + share.hash_chain.len()
         + share.block_tree.len();
-    let good = !share.verification_key.is_empty()
+    unless(
+        keys_are_there(share) && share_data_at <= u32::MAX as usize,
+        25,
+    )?;
+    unless(chain_is_good(share.hash_chain, share.n), 26)?;
+    let tree = share.block_tree.len() as u64;
+    unless(sdmf_tree_is_good(tree, share.data_length), 27)?;
+    unless(share.share_data.len() as u64 == blocks, 28)?;
+    Ok(segment_size)
+}
+
+/// The rows 24 to 28 of MDMF; gives the segment size.
+fn judge_mdmf(share: &NewShare, k: u64, segment_size: u64) -> Result<u64, u32> {
+    let segments = Segments::new(k, segment_size, share.data_length).ok_or(24_u32)?;
+    unless(keys_are_there(share), 25)?;
+    unless(chain_is_good(share.hash_chain, share.n), 26)?;
+    unless(segments.tree_is_good(share.block_tree.len() as u64), 27)?;
+    unless(segments.data_is_good(share.share_data.len() as u64), 28)?;
+    Ok(segment_size)
+}
+
+fn keys_are_there(share: &NewShare) -> bool {
+    !share.verification_key.is_empty()
         && !share.signature.is_empty()
         && !share.encrypted_private_key.is_empty()
-        && share_data_at <= u32::MAX as usize;
-    unless(good, 25)?;
-    unless(chain_is_good(share.hash_chain, share.n), 26)?;
-    let tree_length = share.block_tree.len();
-    unless(
-        tree_length == 32 || tree_length == 0 && share.data_length == 0,
-        27,
-    )?;
-    unless(share.share_data.len() as u64 == blocks, 28)?;
-    unless(share.sequence_number != u64::MAX, 29)?;
-    Ok(segment_size)
 }
 
 /// Writes what is good into space that has room for it; gives the share's length.
 fn write(share: &NewShare, segment_size: u64, space: &mut [u8]) -> usize {
+    space[0] = share.edition() as u8;
+    space[1..9].copy_from_slice(&share.sequence_number.to_be_bytes());
+    space[9..41].copy_from_slice(share.root_hash);
+    let after_r = match share.edition {
+        NewEdition::Sdmf { iv } => {
+            space[41..57].copy_from_slice(iv);
+            57
+        }
+        NewEdition::Mdmf { .. } => 41,
+    };
+    let numbers = &mut space[after_r..after_r + 18];
+    numbers[0] = share.k;
+    numbers[1] = share.n;
+    numbers[2..10].copy_from_slice(&segment_size.to_be_bytes());
+    numbers[10..].copy_from_slice(&share.data_length.to_be_bytes());
+    match share.edition {
+        NewEdition::Sdmf { .. } => write_sdmf_parts(share, space),
+        NewEdition::Mdmf { .. } => write_mdmf_parts(share, space),
+    }
+}
+
+fn write_sdmf_parts(share: &NewShare, space: &mut [u8]) -> usize {
     let (header, mut rest) = space.split_at_mut(107);
-    header[0] = 0;
-    header[1..9].copy_from_slice(&share.sequence_number.to_be_bytes());
-    header[9..41].copy_from_slice(share.root_hash);
-    header[41..57].copy_from_slice(share.iv);
-    header[57] = share.k;
-    header[58] = share.n;
-    header[59..67].copy_from_slice(&segment_size.to_be_bytes());
-    header[67..75].copy_from_slice(&share.data_length.to_be_bytes());
     let mut end = 107;
     for (part, field) in share.parts().into_iter().zip([75, 79, 83, 87, 91, 99]) {
         end += part.len();
@@ -65,6 +103,21 @@ fn write(share: &NewShare, segment_size: u64, space: &mut [u8]) -> usize {
             75..91 => header[field..field + 4].copy_from_slice(&(end as u32).to_be_bytes()),
             _ => header[field..field + 8].copy_from_slice(&(end as u64).to_be_bytes()),
         }
+        let (place, after) = rest.split_at_mut(part.len());
+        place.copy_from_slice(part);
+        rest = after;
+    }
+    end
+}
+
+fn write_mdmf_parts(share: &NewShare, space: &mut [u8]) -> usize {
+    let (header, mut rest) = space.split_at_mut(123);
+    let (first, ends) = header[59..].split_at_mut(8);
+    let mut end = 123;
+    first.copy_from_slice(&(end as u64).to_be_bytes());
+    for (part, field) in share.parts().into_iter().zip(ends.chunks_exact_mut(8)) {
+        end += part.len();
+        field.copy_from_slice(&(end as u64).to_be_bytes());
         let (place, after) = rest.split_at_mut(part.len());
         place.copy_from_slice(part);
         rest = after;

@@ -1,5 +1,5 @@
-//! What several tests build: a slot with leases, and a share whose fields and parts all differ. And what several
-//! compare with the model.
+//! What several tests build: a slot with leases, and shares whose fields and parts all differ. And what several compare
+//! with the model.
 
 #![allow(dead_code)] // Each test uses some of it.
 
@@ -8,9 +8,10 @@ pub mod memory;
 pub mod raw;
 
 use beamsatchel_model as model;
-use beamsatchel_node::ffi::{self, ShareArguments};
+use beamsatchel_node::ffi::{self, EditionArguments, ShareArguments};
 use beamsatchel_node::{
-    CancelToken, Container, Lease, NewShare, NodeId, RenewalToken, TestAndWrite, WriteEnabler,
+    CancelToken, Container, Edition, Lease, NewEdition, NewShare, NodeId, RenewalToken,
+    TestAndWrite, WriteEnabler,
 };
 use std::num::NonZeroU32;
 
@@ -79,49 +80,89 @@ pub fn cut(bytes: Vec<u8>, new_length: u32) -> Vec<u8> {
 }
 
 /// Where the parts of [`share`] begin, and where the last one ends.
-pub const BOUNDS: [usize; 7] = [107, 112, 119, 255, 287, 544, 555];
+pub const fn bounds(edition: Edition) -> [usize; 8] {
+    match edition {
+        Edition::Sdmf => [107, 112, 119, 255, 287, 544, 555, 555],
+        Edition::Mdmf => [123, 134, 270, 277, 282, 291, 596, 820],
+    }
+}
 
 /// A good share, k = 3 and N = 10, whose fields and parts all differ: in length, in their bytes, and in where they lie.
-pub fn share() -> Vec<u8> {
-    let mut share = vec![0];
+/// In MDMF its data has three segments.
+pub fn share(edition: Edition) -> Vec<u8> {
+    let bounds = bounds(edition);
+    let mut share = vec![edition.version()];
     share.extend(0x0102_0304_0506_0708_u64.to_be_bytes());
     share.extend(rising::<32>(0x09)); // R
-    share.extend(rising::<16>(0x60)); // IV
+    if edition == Edition::Sdmf {
+        share.extend(rising::<16>(0x60)); // IV
+    }
     share.extend([3, 10]);
-    share.extend(0x0303_u64.to_be_bytes()); // segment size
+    let segment_size: u64 = match edition {
+        Edition::Sdmf => 0x0303,
+        Edition::Mdmf => 0x0120,
+    };
+    share.extend(segment_size.to_be_bytes());
     share.extend(0x0302_u64.to_be_bytes()); // data length
-    for offset in &BOUNDS[1..5] {
+    let (near, far) = match edition {
+        Edition::Sdmf => (&bounds[1..5], &bounds[5..7]),
+        Edition::Mdmf => (&[][..], &bounds[..]),
+    };
+    for offset in near {
         share.extend((*offset as u32).to_be_bytes());
     }
-    for offset in &BOUNDS[5..] {
+    for offset in far {
         share.extend((*offset as u64).to_be_bytes());
     }
-    share.extend([0xB1; 5]);
-    share.extend([0xB2; 7]);
-    for node_number in [30, 0, 8, 16] {
-        share.extend([0, node_number]);
-        share.extend([0xB3; 32]);
-    }
-    share.extend([0xB4; 32]);
-    share.extend([0xB5; 257]);
-    share.extend([0xB6; 11]);
-    assert_eq!(share.len(), BOUNDS[6]);
+    let (key, signature, private_key) = ([0xB1; 5], [0xB2; 7], [0xB6; 11]);
+    let parts: [&[u8]; 7] = match edition {
+        Edition::Sdmf => [
+            &key,
+            &signature,
+            &HASH_CHAIN,
+            &[0xB4; 32],
+            &[0xB5; 257],
+            &private_key,
+            &[],
+        ],
+        Edition::Mdmf => [
+            &private_key,
+            &HASH_CHAIN,
+            &signature,
+            &key,
+            &[0xB7; 9],
+            &[0xB5; 305],
+            &[0xB4; 224],
+        ],
+    };
+    share.extend(parts.concat());
+    assert_eq!(share.len(), bounds[7]);
     share
 }
 
 /// [`share`], spoiled so that it is refused with a number from 21 to 29.
-pub fn bad_share(number: u32) -> Vec<u8> {
-    let mut share = share();
-    match number {
-        21 => share.truncate(106),
-        22 => share[0] = 1,
-        23 => share[57] = 11,
-        24 => share[66] ^= 1,
-        25 => share[106] ^= 1,
-        26 => share[BOUNDS[2] + 1] = 31,
-        27 => share[90] += 1,
-        28 => share[98] += 1,
-        29 => share[1..9].fill(0xFF),
+pub fn bad_share(edition: Edition, number: u32) -> Vec<u8> {
+    let mut share = share(edition);
+    match (number, edition) {
+        (21, _) => share.truncate(bounds(edition)[0] - 1),
+        (22, _) => share[0] = 2,
+        (23, Edition::Sdmf) => share[57] = 11,
+        (23, Edition::Mdmf) => share[41] = 11,
+        (24, Edition::Sdmf) => share[66] ^= 1,
+        (24, Edition::Mdmf) => share[50] ^= 1,
+        // The end.
+        (25, _) => share[bounds(edition)[0] - 1] ^= 1,
+        (26, Edition::Sdmf) => share[119 + 1] = 31,
+        (26, Edition::Mdmf) => share[134 + 1] = 31,
+        // The share data begins a byte later, and with it the tree ends.
+        (27, Edition::Sdmf) => share[90] += 1,
+        // The tree begins a byte later.
+        (27, Edition::Mdmf) => share[114] += 1,
+        // The share data ends a byte later.
+        (28, Edition::Sdmf) => share[98] += 1,
+        // There is more data, which makes a block longer.
+        (28, Edition::Mdmf) => share[58] += 2,
+        (29, _) => share[1..9].fill(0xFF),
         _ => unreachable!(),
     }
     share
@@ -142,34 +183,47 @@ const fn hash_chain(node_numbers: [u8; 4]) -> [u8; 136] {
 }
 
 /// What [`share`] is written from.
-pub fn new_share() -> NewShare<'static> {
+pub fn new_share(edition: Edition) -> NewShare<'static> {
     NewShare {
         sequence_number: 0x0102_0304_0506_0708,
         root_hash: rising(0x09),
-        iv: rising(0x60),
         k: 3,
         n: 10,
         data_length: 0x0302,
         verification_key: &[0xB1; 5],
         signature: &[0xB2; 7],
         hash_chain: &HASH_CHAIN,
-        block_tree: &[0xB4; 32],
-        share_data: &[0xB5; 257],
+        block_tree: match edition {
+            Edition::Sdmf => &[0xB4; 32],
+            Edition::Mdmf => &[0xB4; 224],
+        },
+        share_data: match edition {
+            Edition::Sdmf => &[0xB5; 257],
+            Edition::Mdmf => &[0xB5; 305],
+        },
         encrypted_private_key: &[0xB6; 11],
+        edition: match edition {
+            Edition::Sdmf => NewEdition::Sdmf { iv: rising(0x60) },
+            Edition::Mdmf => NewEdition::Mdmf {
+                segment_size: 0x0120,
+                spare: &[0xB7; 9],
+            },
+        },
     }
 }
 
 /// [`new_share`], spoiled so that it is refused with a number from 23 to 29.
-pub fn bad_new_share(number: u32) -> NewShare<'static> {
-    let mut share = new_share();
-    match number {
-        23 => share.k = 11,
-        24 => (share.k, share.data_length) = (2, u64::MAX),
-        25 => share.signature = &[],
-        26 => share.n = 17,
-        27 => share.block_tree = &[],
-        28 => share.share_data = &[0xB5; 256],
-        29 => share.sequence_number = u64::MAX,
+pub fn bad_new_share(edition: Edition, number: u32) -> NewShare<'static> {
+    let mut share = new_share(edition);
+    match (number, edition) {
+        (23, _) => share.k = 11,
+        (24, Edition::Sdmf) => (share.k, share.data_length) = (2, u64::MAX),
+        (24, Edition::Mdmf) => share.k = 5,
+        (25, _) => share.signature = &[],
+        (26, _) => share.n = 17,
+        (27, _) => share.block_tree = &[0xB4; 96],
+        (28, _) => share.share_data = &[0xB5; 256],
+        (29, _) => share.sequence_number = u64::MAX,
         _ => unreachable!(),
     }
     share
@@ -180,7 +234,6 @@ pub fn modelled<'a>(share: &ShareArguments<'a>) -> model::NewShare<'a> {
     model::NewShare {
         sequence_number: share.sequence_number,
         root_hash: share.root_hash,
-        iv: share.iv,
         k: share.k,
         n: share.n,
         data_length: share.data_length,
@@ -190,7 +243,28 @@ pub fn modelled<'a>(share: &ShareArguments<'a>) -> model::NewShare<'a> {
         block_tree: share.block_tree,
         share_data: share.share_data,
         encrypted_private_key: share.encrypted_private_key,
+        edition: match share.edition {
+            EditionArguments::Sdmf { iv } => model::NewEdition::Sdmf { iv },
+            EditionArguments::Mdmf {
+                segment_size,
+                spare,
+            } => model::NewEdition::Mdmf {
+                segment_size,
+                spare,
+            },
+        },
     }
+}
+
+/// Checks a bare share by the library and by the model, which must agree.
+pub fn check_share(share: &[u8]) -> model::Share {
+    let checked = ffi::check_share(share);
+    let modelled = model::check_share(share);
+    assert_eq!(
+        (checked.number, checked.edition, checked.bounds),
+        (modelled.number, modelled.edition, modelled.bounds)
+    );
+    modelled
 }
 
 /// Writes a share by the library and by the model, which must agree. Gives number and length.

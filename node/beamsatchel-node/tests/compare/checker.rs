@@ -2,6 +2,7 @@
 
 use crate::case::Case;
 use crate::common::modelled;
+use crate::laid::Laid;
 use crate::long::Long;
 use crate::looks::Look;
 use crate::offsets::Named;
@@ -10,8 +11,10 @@ use crate::slacks::Slack;
 use crate::tally::{Call, Tally};
 use crate::touches::Touch;
 use beamsatchel_model::{self as model, Request, WrittenShare};
-use beamsatchel_node::ffi::{self, RawAnswer, RawShare, RawWrittenShare, ShareArguments};
-use beamsatchel_node::{Clause, Fault, NewShare, Share, View};
+use beamsatchel_node::ffi::{
+    self, EditionArguments, RawAnswer, RawShare, RawWrittenShare, ShareArguments,
+};
+use beamsatchel_node::{Clause, Edition, Fault, NewEdition, NewShare, Share, View};
 
 /// Where a container's data begins.
 const DATA: u64 = 468;
@@ -89,8 +92,11 @@ impl Checker {
             "share differs\nmodel   {checked:?}\nlibrary {library:?}\nfast    {fast:?}\nshare {}",
             hex(share)
         );
-        self.tally
-            .outcome(Call::BareShare, checked.number, || hex(share));
+        demand_nothing_on_refusal(&checked, share);
+        let call = Call::BareShare(edition_of(&checked));
+        self.tally.outcome(call, checked.number, || hex(share));
+        let met = Laid::of_checked(share, checked.number);
+        self.tally.laid(met, Call::BareShare);
         if checked.number == 0 {
             self.write_again(share);
         }
@@ -107,10 +113,16 @@ impl Checker {
             "share differs\nmodel   {checked:?}\nlibrary {library:?}\nfast    {fast:?}\ncontainer {}",
             hex(container)
         );
-        let call = Call::ShareInContainer;
+        let call = Call::ShareInContainer(edition_of(&checked));
         self.tally.outcome(call, checked.number, || hex(container));
         self.tally
             .slacks(Slack::of_share(container, checked.number));
+        if !matches!(checked.number, 1 | 2) {
+            let data = View::open(container).expect("well formed").data();
+            demand_nothing_on_refusal(&checked, data);
+            let met = Laid::of_checked(data, checked.number);
+            self.tally.laid(met, Call::ShareInContainer);
+        }
         checked.number
     }
 
@@ -138,14 +150,18 @@ impl Checker {
         );
         assert_eq!(number == 0, written.length > 0);
         compare_new_share(share, &before, written, space);
+        let edition = arguments_edition(arguments);
+        let call = Call::WriteShare(edition);
         self.tally
-            .outcome(Call::WriteShare, number, || show_share(share, &before));
+            .outcome(call, number, || show_share(share, &before));
         self.tally
-            .shapes(Shape::of_case(share, before.len(), number));
+            .shapes(edition, Shape::of_case(share, before.len(), number));
+        self.tally
+            .laid(Laid::of_written(share, number), Call::WriteShare);
         if number == 0 {
             demand_accepted(share, &space[..written.length as usize]);
-            self.tally.shapes(vec![Shape::AcceptedAsWritten]);
-            self.tally.total(share.n);
+            self.tally.shapes(edition, vec![Shape::AcceptedAsWritten]);
+            self.tally.total(edition, share.n);
         }
         written
     }
@@ -164,20 +180,50 @@ impl Checker {
             hex(share),
             hex(&space)
         );
-        self.tally.shapes(vec![Shape::WrittenAgain]);
+        let edition = again.edition.edition();
+        self.tally.shapes(edition, vec![Shape::WrittenAgain]);
+    }
+}
+
+/// On a refusal every part is empty, and the first byte alone tells the edition.
+fn demand_nothing_on_refusal(checked: &model::Share, share: &[u8]) {
+    assert_eq!(checked.edition, u32::from(share.first() == Some(&1)));
+    if checked.number != 0 {
+        assert_eq!(checked.bounds, [0; 8]);
+    }
+}
+
+/// The edition that a check tells.
+fn edition_of(checked: &model::Share) -> Edition {
+    Edition::from_version(checked.edition as u8).expect("an edition")
+}
+
+fn arguments_edition(arguments: &ShareArguments) -> Edition {
+    match arguments.edition {
+        EditionArguments::Sdmf { .. } => Edition::Sdmf,
+        EditionArguments::Mdmf { .. } => Edition::Mdmf,
     }
 }
 
 /// The crate's own types give what the library gives; where R and IV are of their lengths, they take all.
 fn compare_new_share(share: &model::NewShare, before: &[u8], written: WrittenShare, after: &[u8]) {
-    let (Ok(root_hash), Ok(iv)) = (share.root_hash.try_into(), share.iv.try_into()) else {
+    let edition = match share.edition {
+        model::NewEdition::Sdmf { iv } => iv.try_into().map(|iv| NewEdition::Sdmf { iv }),
+        model::NewEdition::Mdmf {
+            segment_size,
+            spare,
+        } => Ok(NewEdition::Mdmf {
+            segment_size,
+            spare,
+        }),
+    };
+    let (Ok(root_hash), Ok(edition)) = (share.root_hash.try_into(), edition) else {
         assert_eq!(written.number, 3);
         return;
     };
     let new_share = NewShare {
         sequence_number: share.sequence_number,
         root_hash,
-        iv,
         k: share.k,
         n: share.n,
         data_length: share.data_length,
@@ -187,6 +233,7 @@ fn compare_new_share(share: &model::NewShare, before: &[u8], written: WrittenSha
         block_tree: share.block_tree,
         share_data: share.share_data,
         encrypted_private_key: share.encrypted_private_key,
+        edition,
     };
     let needed = new_share.written_len();
     assert_eq!(needed as u128, share.length());
@@ -194,7 +241,8 @@ fn compare_new_share(share: &model::NewShare, before: &[u8], written: WrittenSha
     let mut space = before.to_vec();
     match new_share.write(&mut space) {
         Ok(view) => {
-            assert_eq!((written.number, view.parts()), (0, share.parts()));
+            assert_eq!(written.number, 0);
+            demand_parts(view, share);
             assert_eq!(Share::check(view.as_bytes()), Ok(view));
             assert_eq!(view.as_bytes().len() as u64, written.length);
         }
@@ -208,7 +256,14 @@ fn demand_accepted(share: &model::NewShare, written: &[u8]) {
     let checked = Share::check(written).expect("what is written is accepted");
     let again = NewShare::from(checked);
     assert_eq!(modelled(&again.arguments()), *share);
-    assert_eq!(checked.parts(), share.parts());
+    demand_parts(checked, share);
+}
+
+/// The view has the parts that the share was written from, in their order. The seventh of SDMF is none.
+fn demand_parts(view: Share, share: &model::NewShare) {
+    let parts: Vec<&[u8]> = view.parts().map(|(_, part)| part).collect();
+    assert_eq!(parts, share.parts()[..parts.len()]);
+    assert_eq!(parts.len(), view.edition().parts().len());
 }
 
 /// Lent for reading only, a container answers reads, and takes every other request for an empty one.
@@ -300,6 +355,7 @@ fn of_share(raw: RawShare, start: u64) -> model::Share {
     };
     model::Share {
         number: raw.number,
+        edition: raw.edition,
         bounds: raw.bounds.map(from_start),
     }
 }
@@ -337,16 +393,20 @@ pub fn show(case: &Case) -> String {
 }
 
 fn show_share(share: &model::NewShare, space: &[u8]) -> String {
-    let [key, signature, chain, tree, data, private_key] = share.parts().map(hex);
+    let own = match share.edition {
+        model::NewEdition::Sdmf { iv } => format!("SDMF, IV {}", hex(iv)),
+        model::NewEdition::Mdmf { segment_size, .. } => {
+            format!("MDMF, segment size {segment_size}")
+        }
+    };
     format!(
-        "sequence number {}, k {}, N {}, data length {}\nR {}\nIV {}\nkey {key}\nsignature {signature}\n\
-         chain {chain}\ntree {tree}\ndata {data}\nprivate key {private_key}\nspace {}",
+        "sequence number {}, k {}, N {}, data length {}, {own}\nR {}\nparts in their order {}\nspace {}",
         share.sequence_number,
         share.k,
         share.n,
         share.data_length,
         hex(share.root_hash),
-        hex(share.iv),
+        share.parts().map(hex).join("\n  "),
         hex(space)
     )
 }

@@ -4,9 +4,10 @@
 //! `BEAMSATCHEL_SEED` sets another seed, `BEAMSATCHEL_CASES` a longer run; with only some thousand
 //! cases a run does not meet all that is asked for, and fails for it. The run prints how often each
 //! outcome and each pair of outcomes was met, where tests and reads looked, what offsets from the end
-//! named, what test-and-writes touched, where the count stood, what was met in long containers, and of
-//! which shapes shares to be written were; it fails where a possible one was not met, and at once where
-//! an impossible outcome is or a byte changed that a test-and-write leaves alone.
+//! named, what test-and-writes touched, where the count stood, what was met in long containers, of
+//! which shapes shares to be written were, and how shares of both editions were laid out; it fails where a
+//! possible one was not met, and at once where an impossible outcome is or a byte changed that a
+//! test-and-write leaves alone.
 
 mod apart;
 mod case;
@@ -17,6 +18,7 @@ mod containers;
 mod creates;
 mod edges;
 mod histories;
+mod laid;
 mod long;
 mod looks;
 mod new_share_pairs;
@@ -25,6 +27,7 @@ mod offsets;
 mod pairs;
 mod requests;
 mod rng;
+mod segments;
 mod shapes;
 mod share_pairs;
 mod shares;
@@ -74,11 +77,12 @@ fn main() {
     section("creates", &|rng, checker| {
         creates::run(cases / 30, rng, checker)
     });
+    section("segments", &|rng, checker| segments::run(rng, checker));
     section("shares", &|rng, checker| {
-        shares::run(cases / 6, rng, checker)
+        shares::run(cases / 8, rng, checker)
     });
     section("new shares", &|rng, checker| {
-        new_shares::run(cases / 12, rng, checker)
+        new_shares::run(cases / 15, rng, checker)
     });
     section("histories", &|rng, checker| {
         histories::run(cases / 10, rng, checker)

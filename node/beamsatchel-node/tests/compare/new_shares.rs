@@ -1,40 +1,47 @@
-//! Shares that are written: good ones and such with a flaw, into space of any length.
+//! Shares that are written, of both editions: good ones and such with a flaw, into space of any length.
 
 use crate::checker::Checker;
 use crate::rng::Rng;
-use crate::shares::{node_numbers, Draft};
-use beamsatchel_node::ffi::ShareArguments;
+use crate::shares::{header, node_numbers, Draft};
+use beamsatchel_node::ffi::{EditionArguments, ShareArguments};
+use beamsatchel_node::Edition;
 
-/// One call of the writer. Each slice can have any length.
+/// One call of a writer. Each slice can have any length.
 #[derive(Clone)]
 pub struct Case {
+    pub edition: Edition,
     pub sequence_number: u64,
     pub root_hash: Vec<u8>,
+    /// Of SDMF alone.
     pub iv: Vec<u8>,
     pub k: u8,
     pub n: u8,
+    /// Of MDMF alone.
+    pub segment_size: u64,
     pub data_length: u64,
-    /// Key, signature, chain, tree, share data, private key.
-    pub parts: [Vec<u8>; 6],
+    /// Key, signature, chain, tree, share data, private key, and the spare bytes, which SDMF does not have.
+    pub parts: [Vec<u8>; 7],
     /// Bytes of space beyond those that the share takes; below 0, how many of those are missing.
     pub spare: isize,
 }
 
 impl Case {
     /// A good share.
-    pub fn any(rng: &mut Rng) -> Case {
-        Case::of(&Draft::any(rng), rng)
+    pub fn any(rng: &mut Rng, edition: Edition) -> Case {
+        Case::of(&Draft::any(rng, edition), rng)
     }
 
-    /// What the draft is written from, but for its version and its segment size.
+    /// What the draft is written from, but for its version, and in SDMF for its segment size.
     pub fn of(draft: &Draft, rng: &mut Rng) -> Case {
         let chain = draft.chain_bytes(rng);
         Case {
+            edition: draft.edition,
             sequence_number: draft.sequence_number,
             root_hash: rng.bytes(32),
             iv: rng.bytes(16),
             k: draft.k,
             n: draft.n,
+            segment_size: draft.segment_size,
             data_length: draft.data_length,
             parts: [
                 draft.key.clone(),
@@ -43,6 +50,7 @@ impl Case {
                 draft.tree.clone(),
                 draft.share_data.clone(),
                 draft.private_key.clone(),
+                draft.spare.clone(),
             ],
             spare: rng.pick(&[0, 0, 1, 2, 33]),
         }
@@ -50,18 +58,17 @@ impl Case {
 
     /// What the parts take, with the header.
     pub fn needed(&self) -> usize {
-        107 + self.parts.iter().map(Vec::len).sum::<usize>()
+        header(self.edition) + self.parts.iter().map(Vec::len).sum::<usize>()
     }
 
     /// Compares the call, with any bytes in the space before it; gives the outcome.
     pub fn run(&self, rng: &mut Rng, checker: &mut Checker) -> u32 {
         let space = self.needed().saturating_add_signed(self.spare);
         let mut space = rng.bytes(space);
-        let [key, signature, chain, tree, share_data, private_key] = &self.parts;
+        let [key, signature, chain, tree, share_data, private_key, spare] = &self.parts;
         let share = ShareArguments {
             sequence_number: self.sequence_number,
             root_hash: &self.root_hash,
-            iv: &self.iv,
             k: self.k,
             n: self.n,
             data_length: self.data_length,
@@ -71,18 +78,28 @@ impl Case {
             block_tree: tree,
             share_data,
             encrypted_private_key: private_key,
+            edition: match self.edition {
+                Edition::Sdmf => EditionArguments::Sdmf { iv: &self.iv },
+                Edition::Mdmf => EditionArguments::Mdmf {
+                    segment_size: self.segment_size,
+                    spare,
+                },
+            },
         };
         checker.write_share(&share, &mut space).number
     }
 }
 
 pub fn run(cases: u64, rng: &mut Rng, checker: &mut Checker) {
-    lengths(rng, checker);
-    segments(rng, checker);
-    chains(rng, checker);
+    segment_sizes(rng, checker);
+    for edition in Edition::ALL {
+        lengths(rng, checker, edition);
+        chains(rng, checker, edition);
+    }
     let until = checker.tally.cases + cases;
     while checker.tally.cases < until {
-        let mut case = Case::any(rng);
+        let edition = rng.pick(&Edition::ALL);
+        let mut case = Case::any(rng, edition);
         for _ in 0..rng.below(3) {
             spoil(&mut case, rng);
         }
@@ -92,7 +109,7 @@ pub fn run(cases: u64, rng: &mut Rng, checker: &mut Checker) {
 
 /// Changes a number, a length or a byte; anything may come of it.
 fn spoil(case: &mut Case, rng: &mut Rng) {
-    match rng.below(9) {
+    match rng.below(10) {
         0 => case.sequence_number = rng.pick(&[0, 1 << 63, u64::MAX - 1, u64::MAX]),
         1 => {
             let (root_hash, iv) =
@@ -106,7 +123,10 @@ fn spoil(case: &mut Case, rng: &mut Rng) {
             case.data_length = rng.pick(&[0, more, far, u64::MAX - far, u64::MAX]);
         }
         5 | 6 => {
-            let part = rng.below(6);
+            let part = match case.edition {
+                Edition::Sdmf => rng.below(6),
+                Edition::Mdmf => rng.below(7),
+            };
             let there = case.parts[part].len();
             let length = rng.pick(&[0, 1, 31, 32, 33, 34, there + 1, there.saturating_sub(1)]);
             case.parts[part].resize(length, 7);
@@ -118,20 +138,31 @@ fn spoil(case: &mut Case, rng: &mut Rng) {
                 *byte = rng.byte();
             }
         }
+        8 => {
+            let (k, size) = (u64::from(case.k), case.segment_size);
+            case.segment_size = rng.pick(&[
+                0,
+                size.wrapping_add(1),
+                size.wrapping_sub(k),
+                size.wrapping_add(k),
+                u64::MAX,
+                1 << 63,
+            ]);
+        }
         _ => {
-            let needed = case.needed() as isize;
-            case.spare = rng.pick(&[-1, 0, 1, -needed, 106 - needed, 107 - needed]);
+            let (needed, header) = (case.needed() as isize, header(case.edition) as isize);
+            case.spare = rng.pick(&[-1, 0, 1, -needed, header - 1 - needed, header - needed]);
         }
     }
 }
 
 /// The lengths of R and IV, of each part and of the space at their edges.
-fn lengths(rng: &mut Rng, checker: &mut Checker) {
+fn lengths(rng: &mut Rng, checker: &mut Checker, edition: Edition) {
     for _ in 0..50 {
-        let good = Case::any(rng);
+        let good = Case::any(rng, edition);
         assert_eq!(good.run(rng, checker), 0);
-        let needed = good.needed() as isize;
-        for spare in [-1, -needed, 106 - needed, 107 - needed] {
+        let (needed, header) = (good.needed() as isize, header(edition) as isize);
+        for spare in [-1, -needed, header - 1 - needed, header - needed] {
             let short = Case {
                 spare,
                 ..good.clone()
@@ -149,7 +180,9 @@ fn lengths(rng: &mut Rng, checker: &mut Checker) {
         ] {
             let mut other = good.clone();
             (other.root_hash, other.iv) = (rng.bytes(root_hash), rng.bytes(iv));
-            assert_eq!(other.run(rng, checker), 3);
+            // MDMF has no IV.
+            let fits = edition == Edition::Mdmf && root_hash == 32;
+            assert_eq!(other.run(rng, checker), if fits { 0 } else { 3 });
         }
         // Key, signature and private key of a byte each.
         let mut short = good.clone();
@@ -165,7 +198,10 @@ fn lengths(rng: &mut Rng, checker: &mut Checker) {
         for length in [0, 1, 31, 32, 33, 64] {
             let mut other = good.clone();
             other.parts[3] = rng.bytes(length);
-            let fits = length == 32 || length == 0 && good.data_length == 0;
+            let fits = match edition {
+                Edition::Sdmf => length == 32 || length == 0 && good.data_length == 0,
+                Edition::Mdmf => length == good.parts[3].len(),
+            };
             assert_eq!(other.run(rng, checker), if fits { 0 } else { 27 });
         }
         let mut longer = good.clone();
@@ -186,18 +222,12 @@ fn lengths(rng: &mut Rng, checker: &mut Checker) {
     }
 }
 
-/// For each k, data lengths around the greatest whose segment size fits its field. A share with so much data is too
-/// long for any memory, so where it fits the share data is what is wrong.
-fn segments(rng: &mut Rng, checker: &mut Checker) {
-    for k in 1..=255 {
-        let draft = Draft {
-            k,
-            n: 255,
-            chain: node_numbers(rng, 255),
-            tree: rng.bytes(32),
-            share_data: rng.bytes(9),
-            ..Draft::any(rng)
-        };
+/// For each k, data lengths around the greatest whose segment size fits its field in SDMF. A share with so much data is
+/// too long for any memory, so where it fits the share data is what is wrong.
+fn segment_sizes(rng: &mut Rng, checker: &mut Checker) {
+    for k in 1..=255_u8 {
+        let mut draft = Draft::of_n(rng, Edition::Sdmf, usize::from(k), 255);
+        draft.share_data = rng.bytes(9);
         let good = Case::of(&draft, rng);
         let greatest = u64::MAX - u64::MAX % u64::from(k);
         let below = greatest.saturating_sub(u64::from(k));
@@ -229,17 +259,9 @@ fn segments(rng: &mut Rng, checker: &mut Checker) {
 
 /// For each N: the chain as it must be, with rising, falling and shuffled node numbers, an entry less and more, a
 /// repeat, and each number around the largest that is allowed.
-fn chains(rng: &mut Rng, checker: &mut Checker) {
+fn chains(rng: &mut Rng, checker: &mut Checker, edition: Edition) {
     for n in 1..=255 {
-        let mut draft = Draft {
-            k: 1,
-            n: n as u8,
-            data_length: 5,
-            chain: node_numbers(rng, n),
-            tree: rng.bytes(32),
-            share_data: rng.bytes(5),
-            ..Draft::any(rng)
-        };
+        let mut draft = Draft::of_n(rng, edition, 1, n);
         let bound = 2 * n.next_power_of_two() as u16 - 1;
         let entries = draft.chain.len();
         let mut rising = draft.chain.clone();

@@ -1,9 +1,10 @@
 //! Which shares were written, and how those came close that were not.
 
-use beamsatchel_model::NewShare;
+use beamsatchel_model::{NewEdition, NewShare};
+use beamsatchel_node::Edition;
 
 /// What is at an edge of a share to be written, or of its space: first of those that are written, then of those that
-/// are refused, by rising number.
+/// are refused, by rising number. What concerns the segments of MDMF, `laid` has.
 #[derive(Clone, Copy, Debug, PartialEq, Eq, PartialOrd, Ord)]
 pub enum Shape {
     SpaceFits,
@@ -54,15 +55,36 @@ pub enum Shape {
 }
 
 impl Shape {
-    pub const ALL: [Shape; 41] = [
-        Shape::SpaceFits,
-        Shape::SpaceByteMore,
-        Shape::SpaceLonger,
-        Shape::KeysOfAByte,
+    /// Those that a share of an edition can have.
+    pub fn all(edition: Edition) -> Vec<Shape> {
+        let both = Shape::BOTH.into_iter();
+        match edition {
+            Edition::Sdmf => both.chain(Shape::OF_SDMF).collect(),
+            Edition::Mdmf => both.collect(),
+        }
+    }
+
+    const OF_SDMF: [Shape; 13] = [
         Shape::NoDataNoTree,
         Shape::NoDataTree,
         Shape::SegmentOfDataLength,
         Shape::SegmentLonger,
+        Shape::IvByteLess,
+        Shape::IvByteMore,
+        Shape::SegmentTooLong,
+        Shape::SegmentLongest,
+        Shape::NoTree,
+        Shape::TreeByteLess,
+        Shape::TreeByteMore,
+        Shape::DataByteLess,
+        Shape::DataByteMore,
+    ];
+
+    const BOTH: [Shape; 28] = [
+        Shape::SpaceFits,
+        Shape::SpaceByteMore,
+        Shape::SpaceLonger,
+        Shape::KeysOfAByte,
         Shape::RootNode,
         Shape::LastNode,
         Shape::NodesRise,
@@ -72,16 +94,12 @@ impl Shape {
         Shape::WrittenAgain,
         Shape::RootHashByteLess,
         Shape::RootHashByteMore,
-        Shape::IvByteLess,
-        Shape::IvByteMore,
         Shape::SpaceByteLess,
         Shape::SpaceOfHeader,
         Shape::SpaceByteLessThanHeader,
         Shape::NoSpace,
         Shape::NoK,
         Shape::KAboveN,
-        Shape::SegmentTooLong,
-        Shape::SegmentLongest,
         Shape::NoKey,
         Shape::NoSignature,
         Shape::NoPrivateKey,
@@ -90,51 +108,50 @@ impl Shape {
         Shape::ChainByteMore,
         Shape::NodeTooLarge,
         Shape::NodeRepeats,
-        Shape::NoTree,
-        Shape::TreeByteLess,
-        Shape::TreeByteMore,
-        Shape::DataByteLess,
-        Shape::DataByteMore,
         Shape::SequenceLast,
     ];
 
     /// The shapes of a share that was answered with this number, beside space of this length.
     pub fn of_case(share: &NewShare, space: usize, number: u32) -> Vec<Shape> {
         let needed = share.length() as usize;
+        let header = share.edition().header();
+        let is_sdmf = matches!(share.edition, NewEdition::Sdmf { .. });
         let met = match number {
             0 => return of_written(share, space - needed),
-            3 => match (share.root_hash.len(), share.iv.len()) {
-                (31, 16) => Shape::RootHashByteLess,
-                (33, 16) => Shape::RootHashByteMore,
-                (32, 15) => Shape::IvByteLess,
-                (32, 17) => Shape::IvByteMore,
+            3 => match (share.root_hash.len(), share.edition) {
+                (31, _) => Shape::RootHashByteLess,
+                (33, _) => Shape::RootHashByteMore,
+                (32, NewEdition::Sdmf { iv }) if iv.len() == 15 => Shape::IvByteLess,
+                (32, NewEdition::Sdmf { iv }) if iv.len() == 17 => Shape::IvByteMore,
                 _ => return Vec::new(),
             },
             7 if space + 1 == needed => Shape::SpaceByteLess,
-            7 => match space {
-                107 => Shape::SpaceOfHeader,
-                106 => Shape::SpaceByteLessThanHeader,
+            7 => match space as u64 {
                 0 => Shape::NoSpace,
+                space if space == header => Shape::SpaceOfHeader,
+                space if space + 1 == header => Shape::SpaceByteLessThanHeader,
                 _ => return Vec::new(),
             },
             23 if share.k == 0 => Shape::NoK,
             23 => Shape::KAboveN,
-            24 if share.data_length == longest(share) + 1 => Shape::SegmentTooLong,
-            25 => match share.parts().map(<[u8]>::is_empty) {
-                [true, false, .., false] => Shape::NoKey,
-                [false, true, .., false] => Shape::NoSignature,
-                [false, false, .., true] => Shape::NoPrivateKey,
+            24 if is_sdmf && share.data_length == longest(share) + 1 => Shape::SegmentTooLong,
+            25 => match keys(share).map(<[u8]>::is_empty) {
+                [true, false, false] => Shape::NoKey,
+                [false, true, false] => Shape::NoSignature,
+                [false, false, true] => Shape::NoPrivateKey,
                 _ => return Vec::new(),
             },
             26 => return of_chain(share),
-            27 => match (share.block_tree.len(), share.data_length) {
+            27 if is_sdmf => match (share.block_tree.len(), share.data_length) {
                 (0, 1..) => Shape::NoTree,
                 (31, _) => Shape::TreeByteLess,
                 (33, _) => Shape::TreeByteMore,
                 _ => return Vec::new(),
             },
-            28 if share.k > 1 && share.data_length == longest(share) => Shape::SegmentLongest,
-            28 => {
+            28 if is_sdmf && share.k > 1 && share.data_length == longest(share) => {
+                Shape::SegmentLongest
+            }
+            28 if is_sdmf => {
                 let there = share.share_data.len() as u64;
                 let wanted = share.data_length.div_ceil(u64::from(share.k));
                 match there.wrapping_sub(wanted) {
@@ -150,6 +167,15 @@ impl Shape {
     }
 }
 
+/// What must not be empty.
+fn keys<'a>(share: &NewShare<'a>) -> [&'a [u8]; 3] {
+    [
+        share.verification_key,
+        share.signature,
+        share.encrypted_private_key,
+    ]
+}
+
 /// The greatest multiple of k below 2^64.
 fn longest(share: &NewShare) -> u64 {
     u64::MAX - u64::MAX % u64::from(share.k)
@@ -163,15 +189,15 @@ fn of_written(share: &NewShare, behind: usize) -> Vec<Shape> {
         _ => Shape::SpaceLonger,
     }];
     let mut meet = |shape: Shape, here: bool| met.extend(here.then_some(shape));
-    let parts = share.parts();
-    let keys_of_a_byte = [parts[0], parts[1], parts[5]].map(<[u8]>::len) == [1; 3];
-    meet(Shape::KeysOfAByte, keys_of_a_byte);
-    let (no_data, no_tree) = (share.data_length == 0, share.block_tree.is_empty());
-    meet(Shape::NoDataNoTree, no_data && no_tree);
-    meet(Shape::NoDataTree, no_data && !no_tree);
-    let padded = share.data_length % u64::from(share.k) != 0;
-    meet(Shape::SegmentLonger, padded);
-    meet(Shape::SegmentOfDataLength, !padded && !no_data);
+    meet(Shape::KeysOfAByte, keys(share).map(<[u8]>::len) == [1; 3]);
+    if let NewEdition::Sdmf { .. } = share.edition {
+        let (no_data, no_tree) = (share.data_length == 0, share.block_tree.is_empty());
+        meet(Shape::NoDataNoTree, no_data && no_tree);
+        meet(Shape::NoDataTree, no_data && !no_tree);
+        let padded = share.data_length % u64::from(share.k) != 0;
+        meet(Shape::SegmentLonger, padded);
+        meet(Shape::SegmentOfDataLength, !padded && !no_data);
+    }
     let nodes = nodes(share);
     meet(Shape::RootNode, nodes.contains(&0));
     meet(

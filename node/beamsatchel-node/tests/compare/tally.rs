@@ -1,7 +1,8 @@
 //! How often each outcome, each pair of outcomes, each look at the data, each thing that an offset from the end named,
-//! each touch of the data, each place of the count, each thing in a long container and each shape of a new share was
-//! met.
+//! each touch of the data, each place of the count, each thing in a long container, each shape of a new share and each
+//! way in which a share was laid out was met.
 
+use crate::laid::Laid;
 use crate::long::Long;
 use crate::looks::Look;
 use crate::offsets::Named;
@@ -9,9 +10,10 @@ use crate::rng::Rng;
 use crate::shapes::Shape;
 use crate::slacks::Slack;
 use crate::touches::Touch;
+use beamsatchel_node::Edition;
 use std::collections::{BTreeMap, BTreeSet};
 
-/// What was called; for apply, by the request's first byte.
+/// What was called; for apply, by the request's first byte, for the check of a share, by the edition that it tells.
 #[derive(Clone, Copy, Debug, PartialEq, Eq, PartialOrd, Ord)]
 pub enum Call {
     Create,
@@ -21,13 +23,13 @@ pub enum Call {
     Cancel,
     Read,
     UnknownKind,
-    BareShare,
-    ShareInContainer,
-    WriteShare,
+    BareShare(Edition),
+    ShareInContainer(Edition),
+    WriteShare(Edition),
 }
 
 impl Call {
-    pub const ALL: [Call; 10] = [
+    pub const ALL: [Call; 13] = [
         Call::Create,
         Call::TestAndWrite,
         Call::Add,
@@ -35,9 +37,12 @@ impl Call {
         Call::Cancel,
         Call::Read,
         Call::UnknownKind,
-        Call::BareShare,
-        Call::ShareInContainer,
-        Call::WriteShare,
+        Call::BareShare(Edition::Sdmf),
+        Call::BareShare(Edition::Mdmf),
+        Call::ShareInContainer(Edition::Sdmf),
+        Call::ShareInContainer(Edition::Mdmf),
+        Call::WriteShare(Edition::Sdmf),
+        Call::WriteShare(Edition::Mdmf),
     ];
 
     /// Those that look at the data and reply with pieces of it.
@@ -55,8 +60,8 @@ impl Call {
         }
     }
 
-    /// The outcomes that it can have, by the last column of the outcome table and the rules for
-    /// shares.
+    /// The outcomes that it can have, by the last column of the outcome table and the rules for shares. Where no share
+    /// is looked at, or one of another version, no edition is told but SDMF.
     pub fn outcomes(self) -> &'static [u32] {
         match self {
             Call::Create => &[0, 1, 3, 12],
@@ -65,27 +70,32 @@ impl Call {
             Call::Renew | Call::Cancel => &[0, 1, 2, 3, 9],
             Call::Read => &[0, 1, 2, 3, 4, 7],
             Call::UnknownKind => &[1, 2, 3],
-            Call::BareShare => &[0, 21, 22, 23, 24, 25, 26, 27, 28, 29],
-            Call::ShareInContainer => &[0, 1, 2, 21, 22, 23, 24, 25, 26, 27, 28, 29],
-            Call::WriteShare => &[0, 3, 7, 23, 24, 25, 26, 27, 28, 29],
+            Call::BareShare(Edition::Sdmf) => &[0, 21, 22, 23, 24, 25, 26, 27, 28, 29],
+            Call::ShareInContainer(Edition::Sdmf) => &[0, 1, 2, 21, 22, 23, 24, 25, 26, 27, 28, 29],
+            Call::BareShare(Edition::Mdmf) | Call::ShareInContainer(Edition::Mdmf) => {
+                &[0, 21, 23, 24, 25, 26, 27, 28, 29]
+            }
+            Call::WriteShare(_) => &[0, 3, 7, 23, 24, 25, 26, 27, 28, 29],
         }
     }
 
     /// Whether pairs are to be met without slack and beside it, or there is no container that could have it.
     pub fn slacks(self) -> &'static [Beside] {
         match self {
-            Call::Create | Call::BareShare | Call::WriteShare => &[Beside::NoSlack],
+            Call::Create | Call::BareShare(_) | Call::WriteShare(_) => &[Beside::NoSlack],
             _ => &[Beside::NoSlack, Beside::Slack],
         }
     }
 
-    /// The pairs of refusals that can apply together: for one call, any two of them.
+    /// The pairs of refusals that can apply together: for one call, any two of them. What is laid out as MDMF may have
+    /// another version, or lie in a container that is refused.
     pub fn pairs(self) -> Vec<(u32, u32)> {
-        let refusals = self
-            .outcomes()
-            .iter()
-            .copied()
-            .filter(|number| *number != 0);
+        let outcomes = match self {
+            Call::BareShare(_) => Call::BareShare(Edition::Sdmf).outcomes(),
+            Call::ShareInContainer(_) => Call::ShareInContainer(Edition::Sdmf).outcomes(),
+            _ => self.outcomes(),
+        };
+        let refusals = outcomes.iter().copied().filter(|number| *number != 0);
         refusals
             .clone()
             .flat_map(|low| {
@@ -126,9 +136,10 @@ pub struct Tally {
     touches: BTreeMap<Touch, u64>,
     slacks: BTreeMap<Slack, u64>,
     longs: BTreeMap<Long, u64>,
-    shapes: BTreeMap<Shape, u64>,
+    shapes: BTreeMap<(Edition, Shape), u64>,
     /// The N of shares that were written.
-    totals: BTreeSet<u8>,
+    totals: BTreeSet<(Edition, u8)>,
+    laid: BTreeMap<(Call, Laid), u64>,
 }
 
 impl Tally {
@@ -177,15 +188,22 @@ impl Tally {
         }
     }
 
-    pub fn shapes(&mut self, shapes: Vec<Shape>) {
+    pub fn shapes(&mut self, edition: Edition, shapes: Vec<Shape>) {
         for shape in shapes {
-            *self.shapes.entry(shape).or_default() += 1;
+            *self.shapes.entry((edition, shape)).or_default() += 1;
         }
     }
 
     /// A share was written, one of so many.
-    pub fn total(&mut self, n: u8) {
-        self.totals.insert(n);
+    pub fn total(&mut self, edition: Edition, n: u8) {
+        self.totals.insert((edition, n));
+    }
+
+    /// How shares were laid out, each as one of an edition, in this call.
+    pub fn laid(&mut self, laid: Vec<(Edition, Laid)>, call: fn(Edition) -> Call) {
+        for (edition, laid) in laid {
+            *self.laid.entry((call(edition), laid)).or_default() += 1;
+        }
     }
 
     pub fn print(&self) {
@@ -195,7 +213,7 @@ impl Tally {
             let met: Vec<String> = met
                 .map(|((_, number), count)| format!("{number}: {count}"))
                 .collect();
-            println!("  {:>16}  {}", format!("{call:?}"), met.join(", "));
+            println!("  {:>22}  {}", format!("{call:?}"), met.join(", "));
         }
         println!("\npairs of outcomes met together, each alone and both:");
         for call in Call::ALL {
@@ -207,7 +225,7 @@ impl Tally {
                     .map(|(_, count)| *count)
                     .collect();
                 println!(
-                    "  {:>16}  {} of {} pairs, each at least {} times{}",
+                    "  {:>22}  {} of {} pairs, each at least {} times{}",
                     format!("{call:?}"),
                     met.len(),
                     call.pairs().len(),
@@ -225,7 +243,7 @@ impl Tally {
             let met: Vec<String> = met
                 .map(|((_, look), count)| format!("{look:?}: {count}"))
                 .collect();
-            println!("  {:>16}  {}", format!("{call:?}"), met.join(", "));
+            println!("  {:>22}  {}", format!("{call:?}"), met.join(", "));
         }
         println!("\nwhat offsets from the end named, and on which size:");
         let met: Vec<String> = self
@@ -255,20 +273,32 @@ impl Tally {
             .map(|(long, count)| format!("{long:?}: {count}"))
             .collect();
         println!("  {}", met.join(", "));
-        println!(
-            "\nshapes of new shares, written with {} different N:",
-            self.totals.len()
-        );
-        let met: Vec<String> = self
-            .shapes
-            .iter()
-            .map(|(shape, count)| format!("{shape:?}: {count}"))
-            .collect();
-        println!("  {}\n", met.join(", "));
+        for edition in Edition::ALL {
+            let totals = self.totals.iter().filter(|(of, _)| *of == edition);
+            let totals = totals.count();
+            println!("\nshapes of new {edition} shares, written with {totals} different N:");
+            let met = self.shapes.iter().filter(|((of, _), _)| *of == edition);
+            let met: Vec<String> = met
+                .map(|((_, shape), count)| format!("{shape:?}: {count}"))
+                .collect();
+            println!("  {}", met.join(", "));
+        }
+        println!("\nhow shares were laid out, but for lengths and versions:");
+        for call in Call::ALL {
+            let met = self.laid.iter().filter(|((of, _), _)| *of == call);
+            let met: Vec<String> = met
+                .filter(|((_, laid), _)| !laid.is_one_of_many())
+                .map(|((_, laid), count)| format!("{laid:?}: {count}"))
+                .collect();
+            if !met.is_empty() {
+                println!("  {:>22}  {}", format!("{call:?}"), met.join(", "));
+            }
+        }
+        println!();
     }
 
-    /// Every possible outcome, pair, look, offset from the end, touch, place of the count, long container and shape was
-    /// met, and every N.
+    /// Every possible outcome, pair, look, offset from the end, touch, place of the count, long container, shape and
+    /// layout was met, and every N.
     pub fn demand_all(&self) {
         for call in Call::ALL {
             for number in call.outcomes() {
@@ -303,14 +333,21 @@ impl Tally {
         for long in Long::ALL {
             assert!(self.longs.contains_key(&long), "{long:?} was never met");
         }
-        for shape in Shape::ALL {
-            assert!(self.shapes.contains_key(&shape), "{shape:?} was never met");
+        for edition in Edition::ALL {
+            for shape in Shape::all(edition) {
+                let met = self.shapes.contains_key(&(edition, shape));
+                assert!(met, "{edition}: {shape:?} was never met");
+            }
+            for n in 1..=255 {
+                let met = self.totals.contains(&(edition, n));
+                assert!(met, "no {edition} share with N = {n} was written");
+            }
         }
-        for n in 1..=255 {
-            assert!(
-                self.totals.contains(&n),
-                "no share with N = {n} was written"
-            );
+        for call in Call::ALL {
+            for laid in Laid::all(call) {
+                let met = self.laid.contains_key(&(call, laid));
+                assert!(met, "{call:?}: {laid:?} was never met");
+            }
         }
     }
 }

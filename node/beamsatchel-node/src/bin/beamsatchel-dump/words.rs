@@ -1,11 +1,8 @@
 //! What a container file holds, in words.
 
-use beamsatchel_node::layout::share::{
-    BLOCK_TREE_OFFSET, HASH_CHAIN_OFFSET, K, SEGMENT_SIZE, SEQUENCE_NUMBER, SHARE_DATA_OFFSET,
-    SIGNATURE_OFFSET, VERIFICATION_KEY,
-};
+use beamsatchel_node::layout::share::{SEQUENCE_NUMBER, VERSION};
 use beamsatchel_node::layout::{DATA, MAX_LENGTH};
-use beamsatchel_node::{Fault, Reason, Refusal, Share, View};
+use beamsatchel_node::{Edition, Fault, Part, Reason, Refusal, Share, View};
 use std::io::{self, Write};
 
 /// Bytes in a row of data.
@@ -100,36 +97,30 @@ fn share(bytes: &[u8], view: &View<'_>, out: &mut impl Write) -> io::Result<()> 
         Ok(share) => share,
         Err(refusal) => {
             writeln!(out, "  share          none, outcome {refusal}")?;
-            let byte = DATA + fault_in_share(refusal.reason, view.data());
-            let at = match refusal.reason {
-                Reason::ShareOffsets => "among the six offsets from byte",
-                _ => "at byte",
-            };
-            return writeln!(out, "                 {at} {byte}");
+            let (at, byte) = fault_in_share(refusal.reason, view.data());
+            return writeln!(out, "                 {at} {}", DATA + byte);
         }
     };
     writeln!(
         out,
-        "  share          SDMF, sequence number {}, any {} of {} shares",
+        "  share          {}, sequence number {}, any {} of {} shares",
+        share.edition(),
         share.sequence_number(),
         share.k(),
         share.n()
     )?;
     let root_hash = hex(&share.root_hash());
     writeln!(out, "    root hash              {root_hash}")?;
-    writeln!(out, "    IV                     {}", hex(&share.iv()))?;
+    if let Some(iv) = share.iv() {
+        writeln!(out, "    IV                     {}", hex(&iv))?;
+    }
     writeln!(out, "    segment size           {}", share.segment_size())?;
     writeln!(out, "    data length            {}", share.data_length())?;
-    let names = [
-        "verification key",
-        "signature",
-        "hash chain",
-        "block tree",
-        "share data",
-        "encrypted private key",
-    ];
-    let mut at = DATA + VERIFICATION_KEY;
-    for (name, part) in names.into_iter().zip(share.parts()) {
+    if share.edition() == Edition::Mdmf {
+        writeln!(out, "    segments               {}", share.segments())?;
+    }
+    let mut at = DATA + share.edition().header().len;
+    for (name, part) in share.parts() {
         let length = bytes_in_words(part.len());
         writeln!(out, "    {name:<22} {length} at byte {at}")?;
         at += part.len();
@@ -137,24 +128,40 @@ fn share(bytes: &[u8], view: &View<'_>, out: &mut impl Write) -> io::Result<()> 
     Ok(())
 }
 
-/// The first byte of the field or part of a share that a refusal is about.
-fn fault_in_share(reason: Reason, data: &[u8]) -> usize {
+/// What a refusal is about, a field or a part of a share: words, and its first byte.
+fn fault_in_share(reason: Reason, data: &[u8]) -> (&'static str, usize) {
+    // Where there is no edition, it is refused for that, or for its length.
+    let version = data.get(VERSION).copied().unwrap_or_default();
+    let edition = Edition::from_version(version).unwrap_or(Edition::Sdmf);
+    let header = edition.header();
     // The part begins where its field in the header says; those of 26 to 28 lie inside the share.
-    let part = |field: usize| {
-        let offset = data[field..].first_chunk().expect("the header is whole");
-        u32::from_be_bytes(*offset) as usize
+    let begin = |part: Part| {
+        let mut fields = header.offsets.iter();
+        let field = fields.find(|field| field.part == Some(part));
+        let field = field.expect("a part that has an offset");
+        let bytes = &data[field.at..field.at + field.len];
+        bytes
+            .iter()
+            .fold(0, |at, byte| at << 8 | usize::from(*byte))
     };
-    match reason {
+    let byte = match reason {
         Reason::ShareShort => data.len(),
-        Reason::ShareCoding => K,
-        Reason::ShareSegmentSize => SEGMENT_SIZE,
-        Reason::ShareOffsets => SIGNATURE_OFFSET,
-        Reason::ShareHashChain => part(HASH_CHAIN_OFFSET),
-        Reason::ShareBlockTree => part(BLOCK_TREE_OFFSET),
-        Reason::ShareData => part(SHARE_DATA_OFFSET),
+        Reason::ShareCoding => header.k,
+        Reason::ShareSegmentSize => header.segment_size,
+        Reason::ShareOffsets => {
+            let words = match edition {
+                Edition::Sdmf => "among the six offsets from byte",
+                Edition::Mdmf => "among the eight offsets from byte",
+            };
+            return (words, header.offsets[0].at);
+        }
+        Reason::ShareHashChain => begin(Part::HashChain),
+        Reason::ShareBlockTree => begin(Part::BlockTree),
+        Reason::ShareData => begin(Part::ShareData),
         Reason::ShareSequence => SEQUENCE_NUMBER,
-        _ => 0,
-    }
+        _ => VERSION,
+    };
+    ("at byte", byte)
 }
 
 /// Sixteen bytes to a row behind the position of the first, with printable ASCII beside them.
