@@ -14,25 +14,32 @@ static void same(const char *function, unsigned which, const void *left, const v
     }
 }
 
-/* Of the structs that are compared as bytes only this one has padding, behind `number`, which memset settles. */
-static beamsatchel_share clean(beamsatchel_share share)
-{
-    beamsatchel_share copy;
-    memset(&copy, 0, sizeof copy);
-    copy.number = share.number;
-    memcpy(copy.bounds, share.bounds, sizeof copy.bounds);
-    return copy;
-}
-
-/* The slices of beamsatchel_write_share: R, IV, the six parts, the space. */
+/* The slices of a writer: for SDMF R, IV, the six parts, the space; for MDMF R, the seven parts, the space. */
 enum { SLICES = 9, SPACE = 8 };
 
-/* Writes a share without data, of N = 1, into space of 250 bytes; `answer` is number and length. Bit i of `which` says
- * that slice i is empty, and has this pointer. */
-static void write_share(unsigned which, uint8_t *pointer, uint8_t *space, uint64_t answer[2])
+typedef beamsatchel_written writer(uint8_t *const at[], const size_t length[]);
+
+/* Shares without data, of N = 1. */
+static beamsatchel_written write_sdmf(uint8_t *const at[], const size_t length[])
+{
+    return beamsatchel_write_sdmf(1, at[0], length[0], at[1], length[1], 1, 1, 0, at[2], length[2],
+                                  at[3], length[3], at[4], length[4], at[5], length[5],
+                                  at[6], length[6], at[7], length[7], at[SPACE], length[SPACE]);
+}
+
+static beamsatchel_written write_mdmf(uint8_t *const at[], const size_t length[])
+{
+    return beamsatchel_write_mdmf(1, at[0], length[0], 1, 1, 0, 0, at[1], length[1], at[2], length[2],
+                                  at[3], length[3], at[4], length[4], at[5], length[5],
+                                  at[6], length[6], at[7], length[7], at[SPACE], length[SPACE]);
+}
+
+/* Writes a share into space of 250 bytes; `answer` is number and length. Bit i of `which` says that slice i is empty,
+ * and has this pointer. */
+static void write_share(writer *write, const size_t lengths[], unsigned which, uint8_t *pointer, uint8_t *space,
+                        uint64_t answer[2])
 {
     static uint8_t bytes[34];
-    static const size_t lengths[SLICES] = {32, 16, 1, 1, 34, 32, 1, 1, 250};
     uint8_t *at[SLICES];
     size_t length[SLICES];
     beamsatchel_written written;
@@ -42,35 +49,36 @@ static void write_share(unsigned which, uint8_t *pointer, uint8_t *space, uint64
         at[i] = empty ? pointer : i == SPACE ? space : bytes;
         length[i] = empty ? 0 : lengths[i];
     }
-    written = beamsatchel_write_share(1, at[0], length[0], at[1], length[1], 1, 1, 0, at[2], length[2],
-                                      at[3], length[3], at[4], length[4], at[5], length[5],
-                                      at[6], length[6], at[7], length[7], at[SPACE], length[SPACE]);
+    written = write(at, length);
     answer[0] = written.number;
     answer[1] = written.length;
 }
 
-/* Two of them are good: without chain and share data, and with or without a tree. */
-static void write_shares(uint8_t *any)
+/* Two of them are good: without chain and share data, and for SDMF with or without a tree, for MDMF without a tree and
+ * with or without spare bytes. */
+static void write_shares(const char *name, writer *write, const size_t lengths[], uint8_t *any)
 {
     int good = 0;
 
     for (unsigned which = 1; which < 1u << SLICES; which++) {
         uint8_t left[250] = {0}, right[250] = {0};
         uint64_t null[2], other[2];
-        write_share(which, NULL, left, null);
-        write_share(which, any, right, other);
-        same("write_share", which, null, other, sizeof null);
-        same("write_share", which, left, right, sizeof left);
+        write_share(write, lengths, which, NULL, left, null);
+        write_share(write, lengths, which, any, right, other);
+        same(name, which, null, other, sizeof null);
+        same(name, which, left, right, sizeof left);
         good += null[0] == BEAMSATCHEL_DONE;
     }
     if (good != 2) {
-        printf("write_share: %d shares were written, and 2 are good\n", good);
+        printf("%s: %d shares were written, and 2 are good\n", name, good);
         failed = 1;
     }
 }
 
 int main(void)
 {
+    static const size_t sdmf[SLICES] = {32, 16, 1, 1, 34, 32, 1, 1, 250};
+    static const size_t mdmf[SLICES] = {32, 1, 34, 1, 1, 1, 1, 32, 250};
     uint8_t fresh[500] = {0}, node[20] = {7}, enabler[32] = {1}, space[8], any[1];
     const uint8_t read[4] = {5, 0, 0, 0};
     beamsatchel_answer null, other;
@@ -107,12 +115,13 @@ int main(void)
                                 which & 4 ? NULL : space, third_len);
         same("read", which, &null, &other, sizeof null);
     }
-    null_share = clean(beamsatchel_check_share(NULL, 0));
-    other_share = clean(beamsatchel_check_share(any, 0));
+    null_share = beamsatchel_check_share(NULL, 0);
+    other_share = beamsatchel_check_share(any, 0);
     same("check_share", 1, &null_share, &other_share, sizeof null_share);
-    null_share = clean(beamsatchel_check_container(NULL, 0));
-    other_share = clean(beamsatchel_check_container(any, 0));
+    null_share = beamsatchel_check_container(NULL, 0);
+    other_share = beamsatchel_check_container(any, 0);
     same("check_container", 1, &null_share, &other_share, sizeof null_share);
-    write_shares(any);
+    write_shares("write_sdmf", write_sdmf, sdmf, any);
+    write_shares("write_mdmf", write_mdmf, mdmf, any);
     return failed;
 }

@@ -11,8 +11,8 @@ extern "C" {
 #endif
 
 /* The outcomes: 0 to 5 and 7 to 12 for containers, 21 to 29 for shares. The lowest that applies is given.
- * beamsatchel_write_share has names of its own for 3 and 7 (one switch cannot have both names of a number), and its 24
- * and 25 mean what "Writing a share" in docs/C-INTERFACE.md says. */
+ * The two writers have names of their own for 3 and 7 (one switch cannot have both names of a number), and their 24 and
+ * 25 mean what "Writing a share" in docs/C-INTERFACE.md says. */
 enum beamsatchel_outcome {
     BEAMSATCHEL_DONE = 0,
     BEAMSATCHEL_BUFFER_LENGTH = 1,
@@ -49,8 +49,33 @@ enum {
 /* The offset that names the end of the data, for appends. The last byte is at BEAMSATCHEL_OFFSET_END - 1. */
 enum { BEAMSATCHEL_OFFSET_END = -1 };
 
+/* The editions of a share, which its first byte tells. */
+enum { BEAMSATCHEL_SDMF = 0, BEAMSATCHEL_MDMF = 1 };
+
 /* Bytes of a share before its first part. */
-enum { BEAMSATCHEL_SHARE_HEADER = 107 };
+enum { BEAMSATCHEL_SDMF_HEADER = 107, BEAMSATCHEL_MDMF_HEADER = 123 };
+
+/* The parts of a share by name: part i is from bounds[i] up to bounds[i + 1]. */
+enum beamsatchel_sdmf_part {
+    BEAMSATCHEL_SDMF_VERIFICATION_KEY = 0,
+    BEAMSATCHEL_SDMF_SIGNATURE = 1,
+    BEAMSATCHEL_SDMF_HASH_CHAIN = 2,
+    BEAMSATCHEL_SDMF_BLOCK_TREE = 3,
+    BEAMSATCHEL_SDMF_SHARE_DATA = 4,
+    BEAMSATCHEL_SDMF_ENCRYPTED_PRIVATE_KEY = 5,
+    BEAMSATCHEL_SDMF_PARTS = 6
+};
+
+enum beamsatchel_mdmf_part {
+    BEAMSATCHEL_MDMF_ENCRYPTED_PRIVATE_KEY = 0,
+    BEAMSATCHEL_MDMF_HASH_CHAIN = 1,
+    BEAMSATCHEL_MDMF_SIGNATURE = 2,
+    BEAMSATCHEL_MDMF_VERIFICATION_KEY = 3,
+    BEAMSATCHEL_MDMF_SPARE = 4,
+    BEAMSATCHEL_MDMF_SHARE_DATA = 5,
+    BEAMSATCHEL_MDMF_BLOCK_TREE = 6,
+    BEAMSATCHEL_MDMF_PARTS = 7
+};
 
 /* The outcome's number, a node id (the container's on 5, else zeros), and a count. */
 typedef struct beamsatchel_answer {
@@ -59,11 +84,12 @@ typedef struct beamsatchel_answer {
     uint64_t count;
 } beamsatchel_answer;
 
-/* The outcome's number, and the seven boundaries of the six parts (all 0 on a refusal):
- * verification key, signature, hash chain, block tree, share data, encrypted private key. */
+/* The outcome's number, the edition that the share's first byte names (on a refusal too; BEAMSATCHEL_SDMF where it names
+ * none), and the boundaries of the parts (all 0 on a refusal). SDMF has six parts, so that its end stands twice. */
 typedef struct beamsatchel_share {
     uint32_t number;
-    uint64_t bounds[7];
+    uint32_t edition;
+    uint64_t bounds[8];
 } beamsatchel_share;
 
 /* The outcome's number, and the share's length (0 on a refusal). */
@@ -89,17 +115,29 @@ beamsatchel_share beamsatchel_check_share(const uint8_t *share, size_t share_len
 beamsatchel_share beamsatchel_check_container(const uint8_t *container, size_t container_len);
 
 /* k and n are bytes: C cuts a wider number down before the call. */
-beamsatchel_written beamsatchel_write_share(uint64_t sequence_number,
-                                            const uint8_t *root_hash, size_t root_hash_len,
-                                            const uint8_t *iv, size_t iv_len,
-                                            uint8_t k, uint8_t n, uint64_t data_length,
-                                            const uint8_t *verification_key, size_t verification_key_len,
-                                            const uint8_t *signature, size_t signature_len,
-                                            const uint8_t *hash_chain, size_t hash_chain_len,
-                                            const uint8_t *block_tree, size_t block_tree_len,
-                                            const uint8_t *share_data, size_t share_data_len,
-                                            const uint8_t *encrypted_private_key, size_t encrypted_private_key_len,
-                                            uint8_t *space, size_t space_len);
+beamsatchel_written beamsatchel_write_sdmf(uint64_t sequence_number,
+                                           const uint8_t *root_hash, size_t root_hash_len,
+                                           const uint8_t *iv, size_t iv_len,
+                                           uint8_t k, uint8_t n, uint64_t data_length,
+                                           const uint8_t *verification_key, size_t verification_key_len,
+                                           const uint8_t *signature, size_t signature_len,
+                                           const uint8_t *hash_chain, size_t hash_chain_len,
+                                           const uint8_t *block_tree, size_t block_tree_len,
+                                           const uint8_t *share_data, size_t share_data_len,
+                                           const uint8_t *encrypted_private_key, size_t encrypted_private_key_len,
+                                           uint8_t *space, size_t space_len);
+
+beamsatchel_written beamsatchel_write_mdmf(uint64_t sequence_number,
+                                           const uint8_t *root_hash, size_t root_hash_len,
+                                           uint8_t k, uint8_t n, uint64_t segment_size, uint64_t data_length,
+                                           const uint8_t *encrypted_private_key, size_t encrypted_private_key_len,
+                                           const uint8_t *hash_chain, size_t hash_chain_len,
+                                           const uint8_t *signature, size_t signature_len,
+                                           const uint8_t *verification_key, size_t verification_key_len,
+                                           const uint8_t *spare, size_t spare_len,
+                                           const uint8_t *share_data, size_t share_data_len,
+                                           const uint8_t *block_tree, size_t block_tree_len,
+                                           uint8_t *space, size_t space_len);
 
 #ifdef __cplusplus
 }
