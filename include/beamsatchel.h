@@ -11,8 +11,8 @@ extern "C" {
 #endif
 
 /* The outcomes: 0 to 5 and 7 to 12 for containers, 21 to 29 for shares. The lowest that applies is given.
- * The two writers have names of their own for 3 and 7 (one switch cannot have both names of a number), and their 24 and
- * 25 mean what "Writing a share" in docs/C-INTERFACE.md says. */
+ * The two writers have names of their own for 3 and 7 (one switch cannot have both names of a number), and what their 24
+ * and 25 mean is in "Writing a share" of docs/C-INTERFACE.md. */
 enum beamsatchel_outcome {
     BEAMSATCHEL_DONE = 0,
     BEAMSATCHEL_BUFFER_LENGTH = 1,

@@ -1266,13 +1266,14 @@ fn p47_a_segment_size_is_a_multiple_of_k() {
         (segmented((3, 0, 10), 36, 96), 405, 24, 0),
         (segmented((3, 0, 0), 0, 0), 405, 0, 273),
         (segmented((3, 6, 0), 0, 0), 405, 0, 273),
+        (segmented((3, 7, 0), 0, 0), 405, 24, 0),
         (segmented((3, longest, 10), 20, 32), 405, 0, 325),
         (segmented((2, longest, 10), 20, 32), 405, 24, 0),
     ]);
 }
 
 #[test]
-fn p48_spare_bytes_alone_may_be_missing() {
+fn p48_three_parts_are_not_empty() {
     let bad_chain = hash_chain(&[2, 4, 8, 31]);
     let no_private_key = ShareArguments {
         encrypted_private_key: &[],
