@@ -115,12 +115,12 @@ int main(void)
                                 which & 4 ? NULL : space, third_len);
         same("read", which, &null, &other, sizeof null);
     }
-    null_share = beamsatchel_check_share(NULL, 0);
-    other_share = beamsatchel_check_share(any, 0);
-    same("check_share", 1, &null_share, &other_share, sizeof null_share);
-    null_share = beamsatchel_check_container(NULL, 0);
-    other_share = beamsatchel_check_container(any, 0);
-    same("check_container", 1, &null_share, &other_share, sizeof null_share);
+    null_share = beamsatchel_check_bare_share(NULL, 0);
+    other_share = beamsatchel_check_bare_share(any, 0);
+    same("check_bare_share", 1, &null_share, &other_share, sizeof null_share);
+    null_share = beamsatchel_check_share_in(NULL, 0);
+    other_share = beamsatchel_check_share_in(any, 0);
+    same("check_share_in", 1, &null_share, &other_share, sizeof null_share);
     write_shares("write_sdmf", write_sdmf, sdmf, any);
     write_shares("write_mdmf", write_mdmf, mdmf, any);
     return failed;

@@ -110,11 +110,11 @@ beamsatchel_answer beamsatchel_read(const uint8_t *container, size_t container_l
                                     const uint8_t *request, size_t request_len,
                                     uint8_t *reply, size_t reply_len);
 
-beamsatchel_share beamsatchel_check_share(const uint8_t *share, size_t share_len);
+beamsatchel_share beamsatchel_check_bare_share(const uint8_t *share, size_t share_len);
 
-beamsatchel_share beamsatchel_check_container(const uint8_t *container, size_t container_len);
+beamsatchel_share beamsatchel_check_share_in(const uint8_t *container, size_t container_len);
 
-/* k and n are bytes: C cuts a wider number down before the call. */
+/* k and n, which the pages call N, are bytes: C cuts a wider number down before the call. */
 beamsatchel_written beamsatchel_write_sdmf(uint64_t sequence_number,
                                            const uint8_t *root_hash, size_t root_hash_len,
                                            const uint8_t *iv, size_t iv_len,

@@ -35,14 +35,14 @@ pub extern "C" fn beamsatchel_read(c: &[u8], q: &[u8], r: &mut [u8]) -> Answer
 }
 
 #[no_mangle]
-pub extern "C" fn beamsatchel_check_share(s: &[u8]) -> Checked
+pub extern "C" fn beamsatchel_check_bare_share(s: &[u8]) -> Checked
     ensures { λ r. ⌜ r ≡ checkedOf (now (s .entry)) ⌝ }
 {
     shares::share::check(s)
 }
 
 #[no_mangle]
-pub extern "C" fn beamsatchel_check_container(c: &[u8]) -> Checked
+pub extern "C" fn beamsatchel_check_share_in(c: &[u8]) -> Checked
     ensures { λ r. ⌜ r ≡ checkedContainer (now (c .entry)) ⌝ }
 {
     shares::share::check_container(c)

@@ -169,9 +169,9 @@ unsafe extern "C" {
         reply_len: usize,
     ) -> RawAnswer;
 
-    fn beamsatchel_check_share(share: *const u8, share_len: usize) -> RawShare;
+    fn beamsatchel_check_bare_share(share: *const u8, share_len: usize) -> RawShare;
 
-    fn beamsatchel_check_container(container: *const u8, container_len: usize) -> RawShare;
+    fn beamsatchel_check_share_in(container: *const u8, container_len: usize) -> RawShare;
 
     fn beamsatchel_write_sdmf(
         sequence_number: u64,
@@ -303,7 +303,7 @@ pub fn read(container: &[u8], request: &[u8], reply: &mut [u8]) -> RawAnswer {
 /// ```
 pub fn check_share(share: &[u8]) -> RawShare {
     // SAFETY: pointer and length come from one live slice, never null, which is only read.
-    unsafe { beamsatchel_check_share(share.as_ptr(), share.len()) }
+    unsafe { beamsatchel_check_bare_share(share.as_ptr(), share.len()) }
 }
 
 /// Checks the layout of the share that is a container's data.
@@ -313,7 +313,7 @@ pub fn check_share(share: &[u8]) -> RawShare {
 /// ```
 pub fn check_container(container: &[u8]) -> RawShare {
     // SAFETY: pointer and length come from one live slice, never null, which is only read.
-    unsafe { beamsatchel_check_container(container.as_ptr(), container.len()) }
+    unsafe { beamsatchel_check_share_in(container.as_ptr(), container.len()) }
 }
 
 /// Writes a share into the first bytes of the space, by the writer of its edition. On a refusal no byte of the space

@@ -51,8 +51,8 @@
 //! nothing that takes minutes, in which cargo shows nothing. On a machine without the Rattle kit, `BEAMSATCHEL_ARCHIVE`
 //! names an archive that was made elsewhere, of the same version as this crate; a relative path is relative to where
 //! cargo is started. One of another version may link all the same, and goes by its own version's rules: only a program
-//! that calls what it lacks does not link. One before 0.7 knows no MDMF, and what this crate reads in its answers to
-//! checks of shares means nothing, since they have another layout.
+//! that calls what it lacks does not link. One before 0.7 knows no MDMF and has other names for what checks and writes
+//! shares, so that a program that opens a container, or checks or writes a share, does not link with it.
 
 #![warn(missing_docs)]
 
