@@ -11,8 +11,8 @@ extern "C" {
 #endif
 
 /* The outcomes: 0 to 5 and 7 to 12 for containers, 21 to 29 for shares. The lowest that applies is given.
- * The two writers have names of their own for 3 and 7 (one switch cannot have both names of a number), and what their 24
- * and 25 mean is in "Writing a share" of docs/C-INTERFACE.md. */
+ * The two writers have names of their own for 3 and 7 (one switch cannot have both names of a number), and what their
+ * 24 and 25 mean is in "Writing a share" of docs/C-INTERFACE.md. */
 enum beamsatchel_outcome {
     BEAMSATCHEL_DONE = 0,
     BEAMSATCHEL_BUFFER_LENGTH = 1,
@@ -84,8 +84,8 @@ typedef struct beamsatchel_answer {
     uint64_t count;
 } beamsatchel_answer;
 
-/* The outcome's number, the edition that the share's first byte names (on a refusal too; BEAMSATCHEL_SDMF where it names
- * none), and the boundaries of the parts (all 0 on a refusal). SDMF has six parts, so that its end stands twice. */
+/* The outcome's number, the edition that the share's first byte names (on a refusal too; BEAMSATCHEL_SDMF where it
+ * names none), and the boundaries of the parts (all 0 on a refusal). SDMF has six parts, so that its end stands twice. */
 typedef struct beamsatchel_share {
     uint32_t number;
     uint32_t edition;

@@ -1,4 +1,4 @@
--- The two editions of a share and their headers, field by field (docs/RULES.md, S1 to S15, S45 to S52).
+-- The two editions of a share and their headers, field by field (docs/RULES.md, S1 to S15, S34, S45 to S51).
 use Prim.Native.Nat.{ℕ, _+_, _*_}
 use mathlib.Core.Bool.{Bool, true, false, cond, _&&_}
 use mathlib.Core.List.{List, [], _∷_, _++_, map}

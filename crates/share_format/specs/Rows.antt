@@ -1,4 +1,4 @@
--- Outcomes 21 to 29 of a share, for both editions (docs/RULES.md, S21 to S30, S54 to S58). Numbers do not wrap.
+-- Outcomes 21 to 29 of a share, for both editions (docs/RULES.md, S21 to S30, S54 to S57). Numbers do not wrap.
 use Prim.Native.Nat.{ℕ, _+_, _-_, _*_, _/_, _%_}
 use mathlib.Core.Bool.{Bool, true, false, cond, not, _&&_}
 use mathlib.Core.List.{List, [], _∷_, _++_}

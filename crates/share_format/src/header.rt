@@ -1,4 +1,4 @@
-// The header's fields, each at its place in its edition's table (docs/RULES.md, S1 to S15, S45 to S52).
+// The header's fields, each at its place in its edition's table (docs/RULES.md, S1 to S15, S34, S45 to S51).
 use octets::moves;
 use octets::numbers;
 ghost use mathlib.Core.Path.{_≡_};
@@ -34,7 +34,7 @@ const ROOT_AT: usize = SEQUENCE_AT + NUMBER_SIZE;
 
 const IV_AT: usize = ROOT_AT + HASH_SIZE;
 
-// MDMF has no IV, so that k and all behind it stands nearer to the front.
+// MDMF has no IV, so that k and all behind it stand nearer to the front.
 const SDMF_REQUIRED_AT: usize = IV_AT + SALT_SIZE;
 
 const MDMF_REQUIRED_AT: usize = IV_AT;

@@ -1,4 +1,4 @@
--- The edge tables of the writers: closed cases by computing, and one over any key of its length. Assumes nothing.
+-- The edge tables of the writers: closed cases by computing, one of many segments by a law, one over any key. Assumes nothing.
 use mathlib.Core.Path.{_≡_, refl}
 use mathlib.Core.Bool.{true, false}
 use mathlib.Core.List.{List, map}

@@ -1,4 +1,4 @@
--- Laws of the share writer: room for the parts, its rows, what it writes and how that is read; then its claims.
+-- Laws of the share writers: room for the parts, their rows, what they write and how that is read; then their claims.
 pub mod RoomLaws
 pub mod WritingLaws
 pub mod WrittenBack

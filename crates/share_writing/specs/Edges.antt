@@ -211,7 +211,7 @@ mdmfCases =
     ∷ into (segmented 3 6 25 89 224) 900
     ∷ into (segmented 3 6 25 89 480) 900
     -- P51: share data of a byte less; more; without salts; with 16 times the sum; data of 1, k - 1, k and k + 1
-    -- bytes; of 2^64 - 1 bytes in one segment
+    -- bytes, and k + 1 with a byte less; of 2^64 - 1 bytes in one segment
     ∷ into (segmented 3 6 10 35 96) 405
     ∷ into (segmented 3 6 10 37 96) 406
     ∷ into (segmented 3 6 10 4 96) 405

@@ -1,5 +1,5 @@
--- What the share writers answer, and what they leave in the lent space (docs/RULES.md, S42 to S44, S53, S58). Numbers
--- do not wrap.
+-- What the share writers answer, and what they leave in the lent space (docs/RULES.md, S40, S42 to S44, S53, S58).
+-- Numbers do not wrap.
 use Prim.Native.Nat.{ℕ, _+_}
 use mathlib.Core.Bool.{Bool, cond, not, _&&_}
 use mathlib.Core.List.{List, _∷_, map}

@@ -1,4 +1,5 @@
--- What the checker answers for a share's bytes, and for a container that holds a share as its data (S35 to S40, S52).
+-- What the checker answers for a share's bytes, and for a container that holds a share as its data (S35 to S40, S52,
+-- S53).
 use Prim.Native.Nat.{ℕ, _+_}
 use mathlib.Core.Bool.{false, cond}
 use mathlib.Core.List.{List, map}

@@ -17,6 +17,9 @@ ghost use Rattle.shares.specs.Share.{refused, boundsAt, checkedAt, check
 ghost use Rattle.shares.specs.Share.{checkedContainer, containerPart, containerPartAt};
 ghost use Rattle.octets.specs.Facts.{Fits64};
 
+// MDMF, as the answer's edition has it.
+pub const MDMF: u32 = header::MDMF_VERSION as u32;
+
 // The outcome's number, the edition, and the boundaries of the parts (all 0 on a refusal). SDMF has six parts, so that
 // its last two boundaries are the same.
 #[repr(C)]
@@ -94,11 +97,7 @@ pub fn check_container(c: &[u8]) -> Checked
 fn part_number(edition: u32, in_sdmf: usize, in_mdmf: usize) -> usize
     ensures { λ r. ⌜ r ≡ byEdition (eqb edition (versionOf true)) in_sdmf in_mdmf ⌝ }
 {
-    if edition == header::MDMF_VERSION as u32 {
-        in_mdmf
-    } else {
-        in_sdmf
-    }
+    if edition == MDMF { in_mdmf } else { in_sdmf }
 }
 
 // A part, by its number in each edition.

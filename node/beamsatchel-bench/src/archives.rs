@@ -120,8 +120,10 @@ impl Library {
             Ok(found)
         };
         let apply = find(c"beamsatchel_apply")?;
-        let check_share = find(c"beamsatchel_check_bare_share")?;
-        let check_container = find(c"beamsatchel_check_share_in")?;
+        let check_share =
+            find(c"beamsatchel_check_bare_share").or_else(|_| find(c"beamsatchel_check_share"))?;
+        let check_container = find(c"beamsatchel_check_share_in")
+            .or_else(|_| find(c"beamsatchel_check_container"))?;
         // Before 0.7.0 it was the only writer, and named so.
         let write_sdmf =
             find(c"beamsatchel_write_sdmf").or_else(|_| find(c"beamsatchel_write_share"));
