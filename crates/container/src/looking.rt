@@ -13,8 +13,8 @@ use requests::forms::read_form;
 use rules::Answer;
 use rules::answers::answer;
 
-// Of the five kinds only a read is taken apart.
-fn read_formed(c: &[u8], frame: Frame, q: &[u8], r: &mut [u8]) -> Answer
+// On a container that has been judged, for crates above too. Of the five kinds only a read is taken apart.
+pub fn read_formed(c: &[u8], frame: Frame, q: &[u8], r: &mut [u8]) -> Answer
     requires { ⌜ Known (now c) frame ⌝ }
     ensures { λ x. ⌜ x ≡ answered (now (c .entry)) (readOf (now (q .entry))) (now (r .entry)) ⌝ }
     ensures { λ _. ⌜ now (r .exit) ≡ replyAfter (now (c .entry)) (readOf (now (q .entry))) (now (r .entry)) ⌝ }

@@ -15,8 +15,8 @@ use rules::Answer;
 use rules::answers::answer;
 use writing::test_and_write;
 
-// By the form of the request.
-fn apply_formed(c: &mut [u8], frame: Frame, q: &[u8], r: &mut [u8]) -> Answer
+// On a container that has been judged, by the form of the request; for crates above too.
+pub fn apply_formed(c: &mut [u8], frame: Frame, q: &[u8], r: &mut [u8]) -> Answer
     requires { ⌜ Known (now c) frame ⌝ }
     ensures { λ x. ⌜ x ≡ answered (now (c .entry)) (now (q .entry)) (now (r .entry)) ⌝ }
     ensures { λ _. ⌜ now (c .exit) ≡ containerAfter (now (c .entry)) (now (q .entry)) (now (r .entry)) ⌝ }
