@@ -48,7 +48,7 @@ unfolding join rowBytes
 length-rowBytes [] = refl
 length-rowBytes (r ∷ rs) = simp (length-append, length-digits, length-rowBytes rs) (omega arith)
 
-rows-back : (a : ℕ) (l : List ℕ) (rs : List Stretch) (t : List ℕ) → drop a l ≡ join (map rowBytes rs) ++ t → Each Small rs → rowsFrom (length rs) a l ≡ rs
+pub rows-back : (a : ℕ) (l : List ℕ) (rs : List Stretch) (t : List ℕ) → drop a l ≡ join (map rowBytes rs) ++ t → Each Small rs → rowsFrom (length rs) a l ≡ rs
 unfolding rowsFrom join rowBytes numberAt
 rows-back a l [] t e h = refl
 rows-back a l (r ∷ rs) t e h =
@@ -82,7 +82,7 @@ module _ (rs : List Stretch) (few : length rs ≤ rowLimit) where
   rest-list = field-back (listBytes rs) 4 (8 * length rs) (4 + 8 * length rs) (join (map rowBytes rs)) _ (count-back .1) (length-rowBytes rs) refl .1
 
 -- ---- from bytes to rows and back
-rows-then : (n a : ℕ) (l : List ℕ) → a + 8 * n ≤ length l → Octets l → drop a l ≡ join (map rowBytes (rowsFrom n a l)) ++ drop (a + 8 * n) l
+pub rows-then : (n a : ℕ) (l : List ℕ) → a + 8 * n ≤ length l → Octets l → drop a l ≡ join (map rowBytes (rowsFrom n a l)) ++ drop (a + 8 * n) l
 unfolding rowsFrom join rowBytes
 rows-then zero a l h o = let k : a ≡ a + 8 * 0 = omega arith in ap (λ (i : ℕ). drop i l) k
 rows-then (suc n) a l h o =

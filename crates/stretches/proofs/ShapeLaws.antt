@@ -146,14 +146,14 @@ length-above m [] = omega arith
 length-above m (r ∷ rs) =
     simp length-append (omega (arith, length-between (max m (r .start)) (endOf r), length-above m rs))
 
-none-below : (m low : ℕ) (rs : List Stretch) (n : ℕ) → Rising low rs n → m ≤ low → length (below m rs) ≡ 0
+pub none-below : (m low : ℕ) (rs : List Stretch) (n : ℕ) → Rising low rs n → m ≤ low → length (below m rs) ≡ 0
 unfolding below
 none-below m low [] n h g = refl
 none-below m low (r ∷ rs) n h g =
     let f : InPlace low r n = h .0 in
     simp length-append (omega (arith, none-between (r .start) (min m (endOf r)) (omega arith), none-below m (suc (endOf r)) rs n (h .1) (omega arith)))
 
-none-above : (m low : ℕ) (rs : List Stretch) (n : ℕ) → Rising low rs n → n ≤ m → length (above m rs) ≡ 0
+pub none-above : (m low : ℕ) (rs : List Stretch) (n : ℕ) → Rising low rs n → n ≤ m → length (above m rs) ≡ 0
 unfolding above
 none-above m low [] n h g = refl
 none-above m low (r ∷ rs) n h g =
