@@ -10,7 +10,8 @@
 extern "C" {
 #endif
 
-/* The outcomes: 0 to 5 and 7 to 12 for containers, 21 to 29 for shares. The lowest that applies is given.
+/* The outcomes: 0 to 5 and 7 to 12 for containers, beside a never-written list also 13 and 16, 21 to 29 for shares. The
+ * lowest that applies is given, but for 16, which comes right after 2.
  * The two writers have names of their own for 3 and 7 (one switch cannot have both names of a number), and what their
  * 24 and 25 mean is in "Writing a share" of docs/C-INTERFACE.md. */
 enum beamsatchel_outcome {
@@ -26,6 +27,8 @@ enum beamsatchel_outcome {
     BEAMSATCHEL_LEASES_FULL = 10,
     BEAMSATCHEL_NO_ROOM = 11,
     BEAMSATCHEL_ALREADY_CONTAINER = 12,
+    BEAMSATCHEL_LIST_FULL = 13,
+    BEAMSATCHEL_LIST_NOT_GOOD = 16,
     BEAMSATCHEL_SHARE_SHORT = 21,
     BEAMSATCHEL_SHARE_VERSION = 22,
     BEAMSATCHEL_SHARE_CODING = 23,
@@ -45,6 +48,9 @@ enum {
     BEAMSATCHEL_CONTAINER_MAX = 16777216,
     BEAMSATCHEL_REQUEST_MAX = 65536
 };
+
+/* The bytes of a never-written list, all 0 beside a fresh container, and the most rows that it has. */
+enum { BEAMSATCHEL_LIST_LENGTH = 2052, BEAMSATCHEL_LIST_ROWS = 256 };
 
 /* The offset that names the end of the data, for appends. The last byte is at BEAMSATCHEL_OFFSET_END - 1. */
 enum { BEAMSATCHEL_OFFSET_END = -1 };
@@ -109,6 +115,17 @@ beamsatchel_answer beamsatchel_apply(uint8_t *container, size_t container_len,
 beamsatchel_answer beamsatchel_read(const uint8_t *container, size_t container_len,
                                     const uint8_t *request, size_t request_len,
                                     uint8_t *reply, size_t reply_len);
+
+/* The same for a container with its never-written list. Whoever keeps a list sends every test-and-write this way. */
+beamsatchel_answer beamsatchel_apply_listed(uint8_t *container, size_t container_len,
+                                            uint8_t *list, size_t list_len,
+                                            const uint8_t *request, size_t request_len,
+                                            uint8_t *reply, size_t reply_len);
+
+beamsatchel_answer beamsatchel_read_listed(const uint8_t *container, size_t container_len,
+                                           const uint8_t *list, size_t list_len,
+                                           const uint8_t *request, size_t request_len,
+                                           uint8_t *reply, size_t reply_len);
 
 beamsatchel_share beamsatchel_check_bare_share(const uint8_t *share, size_t share_len);
 

@@ -2,6 +2,7 @@
 ghost use mathlib.Core.Path.{_≡_};
 ghost use Rattle.rules.specs.Outcomes.{createAnswer, createdContainer, answered, containerAfter, replyAfter};
 ghost use Rattle.container.specs.Looking.{readOf};
+ghost use Rattle.listed_rules.specs.Outcomes.{answeredBeside, containerBeside, listAfter, replyBeside};
 ghost use Rattle.shares.specs.Share.{checkedOf, checkedContainer};
 ghost use lib.ListN.{length};
 ghost use Rattle.share_writing.specs.Writing.{sdmfWith, mdmfWith, writtenAnswer, spaceAfter};
@@ -32,6 +33,29 @@ pub extern "C" fn beamsatchel_read(c: &[u8], q: &[u8], r: &mut [u8]) -> Answer
     ensures { λ _. ⌜ now (r .exit) ≡ replyAfter (now (c .entry)) (readOf (now (q .entry))) (now (r .entry)) ⌝ }
 {
     container::looking::read_only(c, q, r)
+}
+
+#[no_mangle]
+pub extern "C" fn beamsatchel_apply_listed(
+    c: &mut [u8],
+    l: &mut [u8],
+    q: &[u8],
+    r: &mut [u8],
+) -> Answer
+    ensures { λ x. ⌜ x ≡ answeredBeside (now (c .entry)) (now (l .entry)) (now (q .entry)) (now (r .entry)) ⌝ }
+    ensures { λ _. ⌜ now (c .exit) ≡ containerBeside (now (c .entry)) (now (l .entry)) (now (q .entry)) (now (r .entry)) ⌝ }
+    ensures { λ _. ⌜ now (l .exit) ≡ listAfter (now (c .entry)) (now (l .entry)) (now (q .entry)) (now (r .entry)) ⌝ }
+    ensures { λ _. ⌜ now (r .exit) ≡ replyBeside (now (c .entry)) (now (l .entry)) (now (q .entry)) (now (r .entry)) ⌝ }
+{
+    listed_slot::requesting::apply(c, l, q, r)
+}
+
+#[no_mangle]
+pub extern "C" fn beamsatchel_read_listed(c: &[u8], l: &[u8], q: &[u8], r: &mut [u8]) -> Answer
+    ensures { λ x. ⌜ x ≡ answeredBeside (now (c .entry)) (now (l .entry)) (readOf (now (q .entry))) (now (r .entry)) ⌝ }
+    ensures { λ _. ⌜ now (r .exit) ≡ replyBeside (now (c .entry)) (now (l .entry)) (readOf (now (q .entry))) (now (r .entry)) ⌝ }
+{
+    listed_slot::looking::read_only(c, l, q, r)
 }
 
 #[no_mangle]

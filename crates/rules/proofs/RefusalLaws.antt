@@ -27,7 +27,7 @@ pub record Silent (n : ℕ) : Type 0 where
   pub no-node : eqb n 5 ≡ false
   pub no-reply : replies n ≡ false
 
-silent-answer : (n : ℕ) (p : Parts) (q : Option Request) → Silent n → answerOf n noNode 0 ≡ answerTo n p q
+pub silent-answer : (n : ℕ) (p : Parts) (q : Option Request) → Silent n → answerOf n noNode 0 ≡ answerTo n p q
 unfolding answerTo
 silent-answer n p none s = refl
 silent-answer n p (some w) s = rw (s .no-node, s .no-reply)

@@ -1,0 +1,3 @@
+-- Laws of a slot with its list.
+pub mod FollowingLaws
+pub mod ServingLaws
