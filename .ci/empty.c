@@ -114,6 +114,16 @@ int main(void)
         null = beamsatchel_read(which & 1 ? NULL : left, container_len, which & 2 ? NULL : read, second_len,
                                 which & 4 ? NULL : space, third_len);
         same("read", which, &null, &other, sizeof null);
+
+        null = beamsatchel_apply_listed(which & 1 ? NULL : left, container_len, NULL, 0, which & 2 ? NULL : read,
+                                        second_len, which & 4 ? NULL : space, third_len);
+        other = beamsatchel_apply_listed(which & 1 ? any : right, container_len, any, 0, which & 2 ? any : read,
+                                         second_len, which & 4 ? any : space, third_len);
+        same("apply_listed", which, &null, &other, sizeof null);
+        same("apply_listed", which, left, right, sizeof left);
+        null = beamsatchel_read_listed(which & 1 ? NULL : left, container_len, NULL, 0, which & 2 ? NULL : read,
+                                       second_len, which & 4 ? NULL : space, third_len);
+        same("read_listed", which, &null, &other, sizeof null);
     }
     null_share = beamsatchel_check_bare_share(NULL, 0);
     other_share = beamsatchel_check_bare_share(any, 0);

@@ -35,6 +35,28 @@ static uint32_t apply(uint8_t *container, size_t length, size_t request_length)
     return beamsatchel_apply(container, length, request, request_length, NULL, 0).number;
 }
 
+/* Reads nothing beside a list of so many bytes, with so many rows of one position each, every second of 600 zeros that
+ * are written first. */
+static uint32_t look(uint8_t *container, size_t length, uint32_t rows)
+{
+    static const uint8_t read[4] = {5, 0, 0, 0};
+    static uint8_t write[48 + 600] = {1, 0, 1, 0}, list[BEAMSATCHEL_LIST_LENGTH + 9];
+
+    write[46] = 600 >> 8;
+    write[47] = 600 & 255;
+    create(container, 2000);
+    is("600 zeros", BEAMSATCHEL_DONE, beamsatchel_apply(container, 2000, write, sizeof write, NULL, 0).number);
+    memset(list, 0, sizeof list);
+    list[2] = (uint8_t)(rows >> 8);
+    list[3] = (uint8_t)rows;
+    for (uint32_t row = 0; row < rows; row++) {
+        list[4 + 8 * row + 2] = (uint8_t)(2 * row >> 8);
+        list[4 + 8 * row + 3] = (uint8_t)(2 * row);
+        list[4 + 8 * row + 7] = 1;
+    }
+    return beamsatchel_read_listed(container, 2000, list, length, read, sizeof read, NULL, 0).number;
+}
+
 int main(void)
 {
     uint8_t *container = malloc((size_t)BEAMSATCHEL_CONTAINER_MAX + 1);
@@ -50,6 +72,12 @@ int main(void)
        apply(container, BEAMSATCHEL_CONTAINER_MAX, BEAMSATCHEL_REQUEST_MAX));
     is("a request above the most", BEAMSATCHEL_REQUEST_FORMAT,
        apply(container, BEAMSATCHEL_CONTAINER_MAX, (size_t)BEAMSATCHEL_REQUEST_MAX + 1));
+    is("a list below its length", BEAMSATCHEL_LIST_NOT_GOOD, look(container, BEAMSATCHEL_LIST_LENGTH - 1, 0));
+    is("a list of its length", BEAMSATCHEL_DONE, look(container, BEAMSATCHEL_LIST_LENGTH, 0));
+    is("a list above its length", BEAMSATCHEL_LIST_NOT_GOOD, look(container, BEAMSATCHEL_LIST_LENGTH + 1, 0));
+    is("a list of the most rows", BEAMSATCHEL_DONE, look(container, BEAMSATCHEL_LIST_LENGTH, BEAMSATCHEL_LIST_ROWS));
+    is("a list of more rows", BEAMSATCHEL_LIST_NOT_GOOD,
+       look(container, BEAMSATCHEL_LIST_LENGTH, BEAMSATCHEL_LIST_ROWS + 1));
     free(container);
     return failed;
 }
