@@ -6,10 +6,11 @@ use crate::requests::BuildError;
 use crate::shares::NewShareError;
 use std::fmt;
 
-/// Why a call was refused: the outcomes 1 to 5 and 7 to 12 for containers and 21 to 29 for shares that are checked.
-/// Outcome 0, done, is no refusal, and no outcome has the number 6. Why a share is not written, [`NewShareError`] says.
+/// Why a call was refused: the outcomes 1 to 5 and 7 to 12 for containers, 13 and 16 for never-written lists beside
+/// them, and 21 to 29 for shares that are checked. Outcome 0, done, is no refusal, and no outcome has the number 6. Why
+/// a share is not written, [`NewShareError`] says.
 ///
-/// Where several apply, the lowest number is given.
+/// Where several apply, the lowest number is given; only 16 comes before 3.
 ///
 /// ```
 /// use beamsatchel_node::Reason;
@@ -45,6 +46,11 @@ pub enum Reason {
     NoRoom = 11,
     /// 12: create on a buffer that begins with the magic.
     AlreadyContainer = 12,
+    /// 13: the never-written list would have more than 256 stretches.
+    ListFull = 13,
+    /// 16: the never-written list has another length or form, or names a byte outside the data or one that is not zero;
+    /// [`ListFault`](crate::ListFault) tells where.
+    ListNotGood = 16,
     /// 21: the share is shorter than its header: 107 bytes, or 123 where it begins as MDMF does.
     ShareShort = 21,
     /// 22: the share's version is neither 0, SDMF, nor 1, MDMF.
@@ -80,6 +86,8 @@ impl Reason {
         Reason::LeasesFull,
         Reason::NoRoom,
         Reason::AlreadyContainer,
+        Reason::ListFull,
+        Reason::ListNotGood,
         Reason::ShareShort,
         Reason::ShareVersion,
         Reason::ShareCoding,
@@ -116,6 +124,10 @@ impl Reason {
             Reason::LeasesFull => "There are 64 leases, none with the renewal token.",
             Reason::NoRoom => "The result would not fit the container's buffer.",
             Reason::AlreadyContainer => "The buffer begins with a container's magic.",
+            Reason::ListFull => "The never-written list would have more than 256 stretches.",
+            Reason::ListNotGood => {
+                "The never-written list breaks its form, or names a byte outside the data or one that is not zero."
+            }
             Reason::ShareShort => "The share is shorter than its header, 107 bytes in SDMF and 123 in MDMF.",
             Reason::ShareVersion => "The share's version is neither 0 (SDMF) nor 1 (MDMF).",
             Reason::ShareCoding => "The share's k is 0 or above its N.",
@@ -207,8 +219,8 @@ impl Answer {
     }
 }
 
-/// A refused call. The container is as it was; so is the reply space, unless the reason is [`Reason::TestFalse`],
-/// when it holds the reply.
+/// A refused call. The container is as it was, and a list beside it too; so is the reply space, unless the reason is
+/// [`Reason::TestFalse`], when it holds the reply.
 ///
 /// ```
 /// use beamsatchel_node::{CancelToken, Container, NodeId, Reason, WriteEnabler};

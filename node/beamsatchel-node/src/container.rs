@@ -101,6 +101,9 @@ impl Lease {
 /// Nothing is kept beside the bytes, so a container may be opened, used and dropped for each request. Every call
 /// judges the whole container anew, and one that is refused changes nothing.
 ///
+/// A slot beside which a never-written list is kept is a [`ListedContainer`](crate::ListedContainer): what is written
+/// through a plain container, its list does not follow.
+///
 /// ```
 /// use beamsatchel_node::{CancelToken, Container, Lease, NodeId, RenewalToken, WriteEnabler};
 /// use std::num::NonZeroU32;
@@ -236,7 +239,7 @@ impl<B: AsRef<[u8]> + AsMut<[u8]>> Container<B> {
     /// # }
     /// ```
     pub fn apply(&mut self, request: &[u8], reply: &mut [u8]) -> Answer {
-        Answer::of_library(ffi::apply(self.buffer.as_mut(), request, reply))
+        Answer::of_library(ffi::apply(self.as_bytes_mut(), request, reply))
     }
 
     /// Makes the writes and the cut where every test holds. The reply has the old bytes that the tests looked at,
@@ -247,13 +250,7 @@ impl<B: AsRef<[u8]> + AsMut<[u8]>> Container<B> {
         reply: &'r mut [u8],
     ) -> Result<Written<'r>, Refusal> {
         let answer = self.apply(&request.to_bytes(), reply);
-        if answer.outcome == Err(Refusal::of(Reason::TestFalse)) {
-            let reply = reply_of(answer, reply, request.test_count());
-            return Ok(Written::TestFalse(reply));
-        }
-        answer.done()?;
-        let reply = reply_of(answer, reply, request.test_count());
-        Ok(Written::Done(reply))
+        written_of(answer, reply, request.test_count())
     }
 
     /// Adds a lease, or lets the one with its renewal token keep the later expiry. Gives the leases present
@@ -272,6 +269,11 @@ impl<B: AsRef<[u8]> + AsMut<[u8]>> Container<B> {
     pub fn cancel_lease(&mut self, token: CancelToken) -> Result<u64, Refusal> {
         self.apply(&CancelLease(token).to_bytes(), &mut []).done()
     }
+
+    /// The bytes of the buffer, for the library to write.
+    pub(crate) fn as_bytes_mut(&mut self) -> &mut [u8] {
+        self.buffer.as_mut()
+    }
 }
 
 /// The length alone: the bytes hold secrets.
@@ -285,9 +287,22 @@ impl<B: AsRef<[u8]>> fmt::Debug for Container<B> {
 }
 
 /// The reply that the library wrote.
-fn reply_of(answer: Answer, reply: &mut [u8], entries: usize) -> Reply<'_> {
+pub(crate) fn reply_of(answer: Answer, reply: &mut [u8], entries: usize) -> Reply<'_> {
     Reply::new(&reply[..answer.count as usize], entries)
         .expect("the library's count is table plus pieces")
+}
+
+/// How a test-and-write of so many tests ended.
+pub(crate) fn written_of(
+    answer: Answer,
+    reply: &mut [u8],
+    tests: usize,
+) -> Result<Written<'_>, Refusal> {
+    if answer.outcome == Err(Refusal::of(Reason::TestFalse)) {
+        return Ok(Written::TestFalse(reply_of(answer, reply, tests)));
+    }
+    answer.done()?;
+    Ok(Written::Done(reply_of(answer, reply, tests)))
 }
 
 /// The library's judgement of a container. Only a well-formed one is asked about its share, so every later outcome

@@ -138,6 +138,6 @@ fn explain(buffer: &[u8]) -> Option<(Clause, usize)> {
     Some((Clause::AfterUsedEnd, used + after))
 }
 
-fn first_not_zero(bytes: &[u8]) -> Option<usize> {
+pub(crate) fn first_not_zero(bytes: &[u8]) -> Option<usize> {
     bytes.iter().position(|byte| *byte != 0)
 }

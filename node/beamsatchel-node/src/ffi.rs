@@ -1,8 +1,9 @@
-//! The boundary: the seven C-callable functions of the proved library, on slices.
+//! The boundary: the nine C-callable functions of the proved library, on slices.
 //!
 //! Everything `unsafe` of this crate stands here. The functions take any bytes, of any length; a node's programmer
-//! will rather use [`Container`](crate::Container), [`Share`](crate::Share) and [`NewShare`](crate::NewShare).
-//! [`write_share`] stands for two of the seven, one for each edition.
+//! will rather use [`Container`](crate::Container), [`ListedContainer`](crate::ListedContainer),
+//! [`Share`](crate::Share) and [`NewShare`](crate::NewShare). [`write_share`] stands for two of the nine, one for each
+//! edition.
 
 #![allow(unsafe_code)]
 
@@ -169,6 +170,28 @@ unsafe extern "C" {
         reply_len: usize,
     ) -> RawAnswer;
 
+    fn beamsatchel_apply_listed(
+        container: *mut u8,
+        container_len: usize,
+        list: *mut u8,
+        list_len: usize,
+        request: *const u8,
+        request_len: usize,
+        reply: *mut u8,
+        reply_len: usize,
+    ) -> RawAnswer;
+
+    fn beamsatchel_read_listed(
+        container: *const u8,
+        container_len: usize,
+        list: *const u8,
+        list_len: usize,
+        request: *const u8,
+        request_len: usize,
+        reply: *mut u8,
+        reply_len: usize,
+    ) -> RawAnswer;
+
     fn beamsatchel_check_bare_share(share: *const u8, share_len: usize) -> RawShare;
 
     fn beamsatchel_check_share_in(container: *const u8, container_len: usize) -> RawShare;
@@ -288,6 +311,70 @@ pub fn read(container: &[u8], request: &[u8], reply: &mut [u8]) -> RawAnswer {
         beamsatchel_read(
             container.as_ptr(),
             container.len(),
+            request.as_ptr(),
+            request.len(),
+            reply.as_mut_ptr(),
+            reply.len(),
+        )
+    }
+}
+
+/// Applies any request bytes to any container bytes with any list bytes beside them, with any reply space. A
+/// test-and-write that is done brings the list up to date; nothing else changes it.
+///
+/// ```
+/// use beamsatchel_node::ffi;
+///
+/// let (mut buffer, mut list) = ([0; 480], [0; 2_052]);
+/// assert_eq!(ffi::create(&mut buffer, &[7; 20], &[0xEE; 32]).number, 0);
+/// // One write, of a byte at 3.
+/// let request = [&[1, 0, 1, 0, 0, 0, 0, 0][..], &[0xEE; 32], &[0, 0, 0, 3, 0, 0, 0, 1, b'A']].concat();
+/// assert_eq!(ffi::apply_listed(&mut buffer, &mut list[..2_051], &request, &mut []).number, 16);
+/// assert_eq!(ffi::apply_listed(&mut buffer, &mut list, &request, &mut []).number, 0);
+/// // One stretch, from 0 on, of three bytes.
+/// assert_eq!(list[..12], [0, 0, 0, 1, 0, 0, 0, 0, 0, 0, 0, 3]);
+/// ```
+pub fn apply_listed(
+    container: &mut [u8],
+    list: &mut [u8],
+    request: &[u8],
+    reply: &mut [u8],
+) -> RawAnswer {
+    // SAFETY: as for `create`; the three `&mut` slices overlap nothing.
+    unsafe {
+        beamsatchel_apply_listed(
+            container.as_mut_ptr(),
+            container.len(),
+            list.as_mut_ptr(),
+            list.len(),
+            request.as_ptr(),
+            request.len(),
+            reply.as_mut_ptr(),
+            reply.len(),
+        )
+    }
+}
+
+/// Applies a read to container and list bytes that are lent for reading only. A request that is no read is answered as
+/// the empty request is. The read of nothing, `05 00 00 00`, asks whether container and list are good.
+///
+/// ```
+/// use beamsatchel_node::ffi;
+///
+/// let mut buffer = [0; 472];
+/// assert_eq!(ffi::create(&mut buffer, &[7; 20], &[0xEE; 32]).number, 0);
+/// assert_eq!(ffi::read_listed(&buffer, &[0; 2_052], &[5, 0, 0, 0], &mut []).number, 0);
+/// assert_eq!(ffi::read_listed(&buffer, &[0; 2_052], &[4; 33], &mut []).number, 3);
+/// assert_eq!(ffi::read_listed(&buffer, &[1; 2_052], &[4; 33], &mut []).number, 16);
+/// ```
+pub fn read_listed(container: &[u8], list: &[u8], request: &[u8], reply: &mut [u8]) -> RawAnswer {
+    // SAFETY: as for `create`; container and list are only read, and the `&mut` slice overlaps nothing.
+    unsafe {
+        beamsatchel_read_listed(
+            container.as_ptr(),
+            container.len(),
+            list.as_ptr(),
+            list.len(),
             request.as_ptr(),
             request.len(),
             reply.as_mut_ptr(),

@@ -1,4 +1,5 @@
-//! The tables of `docs/RULES.md`: where the fields of a container and of a share begin, and the sizes of what repeats.
+//! The tables of `docs/RULES.md`: where the fields of a container, of a never-written list and of a share begin, and
+//! the sizes of what repeats.
 //!
 //! Requests need none of this: the builders write them. It is for those who look at bytes, or are sent requests.
 
@@ -30,6 +31,20 @@ pub const MIN_LENGTH: usize = 472;
 pub const MAX_LENGTH: usize = 16_777_216;
 /// The most bytes of a request.
 pub const MAX_REQUEST: usize = 65_536;
+
+/// The never-written list beside a slot: a count, then so many rows, then zeros.
+pub mod list {
+    /// Bytes of a list, whatever it names.
+    pub const LENGTH: usize = 2_052;
+    /// The number of rows, in 4 bytes.
+    pub const COUNT: usize = 0;
+    /// The first row.
+    pub const ROWS: usize = 4;
+    /// Bytes of a row: where a stretch of the data begins, in 4 bytes, and its length, in 4 bytes.
+    pub const ROW: usize = 8;
+    /// The most rows of a list.
+    pub const MAX_ROWS: usize = 256;
+}
 
 /// The header of a share: what both editions have at the same bytes, and for each edition a table of the rest.
 pub mod share {

@@ -6,13 +6,13 @@ mod common;
 
 use beamsatchel_node::ffi::RawAnswer;
 use beamsatchel_node::{
-    Answer, BuildError, Container, Edition, Error, NewShareError, Reason, Reply, TestAndWrite,
-    Written,
+    Answer, BuildError, Container, Edition, Error, ListedContainer, NewShareError, Reason, Reply,
+    TestAndWrite, Written,
 };
 use common::{fresh, new_share, ENABLER, NODE};
 
 /// Every reason with its number and what it says.
-const REASONS: [(Reason, u32, &str); 20] = [
+const REASONS: [(Reason, u32, &str); 22] = [
     (Reason::BufferLength, 1, "The container's buffer is not 472 to 16,777,216 bytes long."),
     (Reason::NotWellFormed, 2, "The buffer does not hold a well-formed container."),
     (Reason::RequestFormat, 3, "The request breaks its format."),
@@ -24,6 +24,12 @@ const REASONS: [(Reason, u32, &str); 20] = [
     (Reason::LeasesFull, 10, "There are 64 leases, none with the renewal token."),
     (Reason::NoRoom, 11, "The result would not fit the container's buffer."),
     (Reason::AlreadyContainer, 12, "The buffer begins with a container's magic."),
+    (Reason::ListFull, 13, "The never-written list would have more than 256 stretches."),
+    (
+        Reason::ListNotGood,
+        16,
+        "The never-written list breaks its form, or names a byte outside the data or one that is not zero.",
+    ),
     (Reason::ShareShort, 21, "The share is shorter than its header, 107 bytes in SDMF and 123 in MDMF."),
     (Reason::ShareVersion, 22, "The share's version is neither 0 (SDMF) nor 1 (MDMF)."),
     (Reason::ShareCoding, 23, "The share's k is 0 or above its N."),
@@ -82,7 +88,7 @@ fn reasons_have_their_numbers_and_sentences() {
         assert_eq!(reason.to_string(), format!("{number}: {sentence}"));
     }
     // 257 is 1 in its last byte.
-    for number in [0, 6, 13, 20, 30, 257, u32::MAX] {
+    for number in [0, 6, 14, 15, 17, 20, 30, 257, u32::MAX] {
         assert_eq!(Reason::from_number(number), None);
     }
 }
@@ -115,7 +121,7 @@ fn an_answer_is_the_record() {
 
 #[test]
 fn a_number_that_is_no_outcome_gives_no_answer() {
-    for number in [6, 13, 20, 30, 256, u32::MAX] {
+    for number in [6, 14, 15, 17, 20, 30, 256, u32::MAX] {
         assert_eq!(answer(number, 0), None);
     }
 }
@@ -287,6 +293,24 @@ fn dropping_is_warned_of() {
     {
         beamsatchel_node::ffi::check_share(&[]);
     }
+    let mut slot = ListedContainer::adopt(fresh(472), [0; 2_052]);
+    #[expect(unused_must_use)]
+    {
+        slot.apply(&[], &mut []);
+    }
+    #[expect(unused_must_use)]
+    {
+        slot.test_and_write(&TestAndWrite::new(ENABLER), &mut [])
+            .unwrap();
+    }
+    #[expect(unused_must_use)]
+    {
+        beamsatchel_node::ffi::apply_listed(&mut [], &mut [], &[], &mut []);
+    }
+    #[expect(unused_must_use)]
+    {
+        beamsatchel_node::ffi::read_listed(&[], &[], &[], &mut []);
+    }
 }
 
 /// More reasons and errors may come: the last arm of each would be unreachable if that were not announced.
@@ -309,6 +333,8 @@ fn more_may_come() {
             | Reason::LeasesFull
             | Reason::NoRoom
             | Reason::AlreadyContainer
+            | Reason::ListFull
+            | Reason::ListNotGood
             | Reason::ShareShort
             | Reason::ShareVersion
             | Reason::ShareCoding

@@ -1,5 +1,5 @@
-//! Bad input through each of the seven functions of the C interface: empty slices and lengths at the edges of what is
-//! allowed, for every argument.
+//! Bad input through each of the seven functions of the C interface that take no list: empty slices and lengths at the
+//! edges of what is allowed, for every argument.
 
 mod common;
 
