@@ -2,7 +2,7 @@
 
 mod common;
 
-use beamsatchel_node::Edition;
+use beamsatchel_node::{Edition, ListedContainer, TestAndWrite};
 use common::{bad_share, bounds, cut, fresh, lease, share, slot, with_data, ENABLER};
 use std::ffi::{OsStr, OsString};
 use std::fs::{self, File};
@@ -13,10 +13,14 @@ use std::process::{ChildStdin, Command, Output, Stdio};
 use std::thread;
 
 const USAGE: &str = "usage: beamsatchel-dump [--secrets] [--data] [--help] [--] FILE...
-  --secrets  show write enabler and tokens
-  --data     show the data
-The exit code is 0 when every file holds a well-formed container, 1 when one is
-refused, 2 when one cannot be read or the words cannot be written.
+       beamsatchel-dump [--secrets] [--data] --list LIST [--] FILE
+  --secrets    show write enabler and tokens
+  --data       show the data
+  --list LIST  show which stretches of the data nobody wrote, by the list in the
+               file LIST; in the data their bytes are -- instead of 00
+The exit code is 0 when every file holds a well-formed container, and LIST a
+good list beside it, 1 when one is refused, 2 when one cannot be read or the
+words cannot be written.
 ";
 
 fn command() -> Command {
@@ -258,6 +262,144 @@ fn a_bad_share_names_the_byte() {
         // The container is well formed all the same.
         assert_eq!(code, 0);
     }
+}
+
+/// A slot with its list: 40 bytes of data, of which 3 to 4, 6 to 21 and 30 were never written.
+fn listed() -> (Vec<u8>, Vec<u8>) {
+    let mut slot = ListedContainer::open(fresh(600), vec![0; 2_052]).unwrap();
+    for (at, data) in [
+        (0, &b"abc"[..]),
+        (5, b"\0"),
+        (22, b"W\0\0aaaaa"),
+        (31, b"012345678"),
+    ] {
+        let request = TestAndWrite::new(ENABLER).write(at, data).unwrap();
+        assert!(slot.test_and_write(&request, &mut []).unwrap().is_done());
+    }
+    slot.into_parts()
+}
+
+/// Runs the command on a slot with its list; gives its words after the file's name, and its exit code.
+fn dump_listed(test: &str, options: &[&str], bytes: &[u8], list: &[u8]) -> (String, i32) {
+    let list = file(test, "list", list);
+    let list = list.to_str().unwrap();
+    dump(test, &[options, &["--list", list]].concat(), bytes)
+}
+
+/// The stretches are told in words, and in the data a byte that nobody wrote is not one that is zero.
+#[test]
+fn what_was_never_written() {
+    let (bytes, list) = listed();
+    let told = "
+  never written  19 bytes in 3 stretches
+    positions 3 to 4, 2 bytes
+    positions 6 to 21, 16 bytes
+    position 30
+";
+    let rows = "         0  61 62 63 -- -- 00 -- -- -- -- -- -- -- -- -- --  |abc.............|
+        16  -- -- -- -- -- -- 57 00 00 61 61 61 61 61 -- 30  |......W..aaaaa.0|
+        32  31 32 33 34 35 36 37 38                          |12345678|
+";
+    let (words, code) = dump_listed("listed", &[], &bytes, &list);
+    assert!(words.ends_with(told), "{words}");
+    assert_eq!(code, 0);
+    let (words, _) = dump_listed("listed", &["--data"], &bytes, &list);
+    assert!(words.ends_with(&format!("{told}{rows}")), "{words}");
+    // What is said of the container is the same.
+    let (without, _) = dump("listed", &["--data"], &bytes);
+    assert_eq!(words.replace(&told[1..], "").replace("--", "00"), without);
+
+    let (words, code) = dump_listed("listed", &["--data"], &bytes, &[0; 2_052]);
+    assert!(words.contains("\n  never written  0 bytes in 0 stretches\n"));
+    assert_eq!(
+        (
+            words.replace("  never written  0 bytes in 0 stretches\n", ""),
+            code
+        ),
+        (without, 0)
+    );
+    let (words, _) = dump_listed("listed", &[], &fresh(472), &[0; 2_052]);
+    assert!(words.ends_with("\n  never written  0 bytes in 0 stretches\n"));
+    // A row of data may be all of one stretch, also the last.
+    let mut slot = ListedContainer::open(fresh(600), [0; 2_052]).unwrap();
+    let request = TestAndWrite::new(ENABLER).write(20, b"A").unwrap().cut(17);
+    assert!(slot.test_and_write(&request, &mut []).unwrap().is_done());
+    let (words, _) = dump_listed("listed", &["--data"], slot.as_bytes(), slot.list_bytes());
+    let dashes = [vec!["--"; 16].join(" "), format!("{:<47}", "--")];
+    let told = format!(
+        "  never written  17 bytes in 1 stretch
+    positions 0 to 16, 17 bytes
+         0  {}  |................|
+        16  {}  |.|
+",
+        dashes[0], dashes[1]
+    );
+    assert!(words.ends_with(&told), "{words}");
+}
+
+/// The container is told of all the same, and of its data no byte is called never written.
+#[test]
+fn a_refused_list_names_the_byte() {
+    let (bytes, list) = listed();
+    let with = |at: usize, byte: u8| {
+        let mut list = list.clone();
+        list[at] = byte;
+        list
+    };
+    let mut longer = list.clone();
+    longer.resize(3_000, 0);
+    for (list, fault) in [
+        (&list[..2_051], "at byte 2051 of the list: the list is not 2,052 bytes long"),
+        (&longer, "at byte 2052 of the list: the list is not 2,052 bytes long"),
+        (&[], "at byte 0 of the list: the list is not 2,052 bytes long"),
+        (&with(2, 2), "at byte 0 of the list: the number of rows is above 256"),
+        (&with(19, 0), "at byte 16 of the list: a row's length is 0"),
+        (&with(15, 5), "at byte 12 of the list: a row does not begin above the end of the row before it"),
+        (&with(27, 11), "at byte 24 of the list: a row reaches behind the end of the data"),
+        (&with(23, 40), "at byte 20 of the list: a row reaches behind the end of the data"),
+        (&with(28, 1), "at byte 28 of the list: a byte after the last row is not zero"),
+        (
+            &with(19, 17),
+            "at byte 12 of the list: a row names a byte of the data that is not zero, at position 22",
+        ),
+    ] {
+        let (words, code) = dump_listed("refused-list", &["--data"], &bytes, list);
+        let told = format!(
+            "
+  list           refused with outcome 16: The never-written list breaks its form, or names a byte outside the data \
+             or one that is not zero.
+                 {fault}
+         0  61 62 63 00 00 00 "
+        );
+        assert!(words.contains(&told), "{words}");
+        assert_eq!(code, 1);
+    }
+    // Of a list beside a refused container nothing is said.
+    let (words, code) = dump_listed("refused-list", &[], &bytes[..471], &list);
+    assert_eq!((words, code), (refused_length(471, "471 bytes"), 1));
+}
+
+#[test]
+fn a_list_that_cannot_be_read() {
+    let slot = file("no-list", "slot", &fresh(472));
+    let missing = place("no-list", "missing");
+    let complaint = format!("{missing:?}: No such file or directory (os error 2)\n");
+    for (list, container) in [(&missing, &slot), (&slot, &missing), (&missing, &missing)] {
+        let ended = run(&["--list".as_ref(), list.as_os_str(), container.as_os_str()]);
+        assert_eq!(ended, (String::new(), complaint.clone(), 2));
+    }
+    // A list without end is read as far as a list can go.
+    let output = Command::new("sh")
+        .args([
+            "-c",
+            "ulimit -v 1000000 && exec \"$0\" --list /dev/zero \"$1\"",
+        ])
+        .arg(env!("CARGO_BIN_EXE_beamsatchel-dump"))
+        .arg(&slot)
+        .output();
+    let (words, _, code) = ends(output.unwrap());
+    assert!(words.ends_with("at byte 2052 of the list: the list is not 2,052 bytes long\n"));
+    assert_eq!(code, 1);
 }
 
 #[test]
@@ -531,6 +673,38 @@ fn a_wrong_command_line() {
     }
     let unknown = OsStr::from_bytes(b"-\xFF");
     assert_eq!(run(&[slot.as_os_str(), unknown]), usage);
+    // A list stands beside one file, and there is one list.
+    let (slot, list) = (slot.as_os_str(), OsStr::new("--list"));
+    for arguments in [
+        &[list][..],
+        &[list, slot],
+        &[slot, list],
+        &[list, slot, slot, slot],
+        &[list, slot, list, slot, slot],
+    ] {
+        assert_eq!(run(arguments), usage, "{arguments:?}");
+    }
+}
+
+/// The list may be named before the file or behind it, and may have any name.
+#[test]
+fn a_list_in_any_place() {
+    let folder = file("list-place", "slot", &fresh(472));
+    let folder = folder.parent().unwrap();
+    fs::write(folder.join("--data"), [0; 2_052]).unwrap();
+    for arguments in [
+        &["--list", "--data", "slot"][..],
+        &["slot", "--list", "--data"],
+        &["--list", "--data", "--", "slot"],
+    ] {
+        let output = command().current_dir(folder).args(arguments).output();
+        let (stdout, stderr, code) = ends(output.unwrap());
+        assert!(
+            stdout.ends_with("  never written  0 bytes in 0 stretches\n"),
+            "{stdout}"
+        );
+        assert_eq!((stderr, code), (String::new(), 0));
+    }
 }
 
 #[test]

@@ -2,7 +2,7 @@
 
 use beamsatchel_node::layout::share::{SEQUENCE_NUMBER, VERSION};
 use beamsatchel_node::layout::{DATA, MAX_LENGTH};
-use beamsatchel_node::{Edition, Fault, Part, Reason, Refusal, Share, View};
+use beamsatchel_node::{Edition, Fault, ListFault, Part, Reason, Refusal, Share, Stretches, View};
 use std::io::{self, Write};
 
 /// Bytes in a row of data.
@@ -24,23 +24,35 @@ impl Shown {
     }
 }
 
-/// Writes what a container file holds, and tells whether it is well formed.
-pub fn dump(bytes: &[u8], shown: Shown, out: &mut impl Write) -> io::Result<bool> {
-    match View::open(bytes) {
-        Ok(view) => {
-            fields(&view, shown, out)?;
-            leases(&view, shown, out)?;
-            share(bytes, &view, out)?;
-            if shown.data {
-                data(view.data(), out)?;
-            }
-            Ok(true)
-        }
+/// Writes what a container file holds, and the list beside it where there is one. Tells whether it is well formed, and
+/// the list good.
+pub fn dump(
+    bytes: &[u8],
+    list: Option<&[u8]>,
+    shown: Shown,
+    out: &mut impl Write,
+) -> io::Result<bool> {
+    let view = match View::open(bytes) {
+        Ok(view) => view,
         Err(refusal) => {
             refused(bytes, refusal, out)?;
-            Ok(false)
+            return Ok(false);
         }
+    };
+    fields(&view, shown, out)?;
+    leases(&view, shown, out)?;
+    share(bytes, &view, out)?;
+    let stretches = list.map(|list| Stretches::open(bytes, list));
+    match (list, &stretches) {
+        (_, Some(Ok(stretches))) => never_written(stretches, out)?,
+        (Some(list), Some(Err(refusal))) => refused_list(bytes, list, refusal, out)?,
+        _ => {}
     }
+    let good = !matches!(stretches, Some(Err(_)));
+    if shown.data {
+        data(view.data(), stretches.and_then(Result::ok), out)?;
+    }
+    Ok(good)
 }
 
 fn refused(bytes: &[u8], refusal: Refusal, out: &mut impl Write) -> io::Result<()> {
@@ -164,10 +176,61 @@ fn fault_in_share(reason: Reason, data: &[u8]) -> (&'static str, usize) {
     ("at byte", byte)
 }
 
+fn never_written(stretches: &Stretches<'_>, out: &mut impl Write) -> io::Result<()> {
+    let bytes = bytes_in_words(stretches.byte_count());
+    match stretches.len() {
+        1 => writeln!(out, "  never written  {bytes} in 1 stretch")?,
+        count => writeln!(out, "  never written  {bytes} in {count} stretches")?,
+    }
+    for stretch in stretches.iter() {
+        let last = stretch.end - 1;
+        match stretch.len() {
+            1 => writeln!(out, "    position {last}")?,
+            length => writeln!(
+                out,
+                "    positions {} to {last}, {length} bytes",
+                stretch.start
+            )?,
+        }
+    }
+    Ok(())
+}
+
+fn refused_list(
+    bytes: &[u8],
+    list: &[u8],
+    refusal: &Refusal,
+    out: &mut impl Write,
+) -> io::Result<()> {
+    writeln!(out, "  list           refused with outcome {refusal}")?;
+    match ListFault::find(bytes, list) {
+        Some(fault) => writeln!(out, "                 {fault}"),
+        None => Ok(()),
+    }
+}
+
 /// Sixteen bytes to a row behind the position of the first, with printable ASCII beside them.
-fn data(data: &[u8], out: &mut impl Write) -> io::Result<()> {
+fn data(data: &[u8], stretches: Option<Stretches<'_>>, out: &mut impl Write) -> io::Result<()> {
+    let mut stretches = stretches.iter().flat_map(Stretches::iter).peekable();
+    // The positions rise, so that a stretch that ends before one is done with.
+    let mut never_written = |position| {
+        while stretches
+            .next_if(|stretch| stretch.end <= position)
+            .is_some()
+        {}
+        stretches
+            .peek()
+            .is_some_and(|stretch| stretch.start <= position)
+    };
     for (row, bytes) in data.chunks(ROW).enumerate() {
-        let pairs: Vec<String> = bytes.iter().map(|byte| format!("{byte:02x}")).collect();
+        let positions = row * ROW..;
+        let pairs = positions
+            .zip(bytes)
+            .map(|(position, byte)| match never_written(position) {
+                true => "--".to_string(),
+                false => format!("{byte:02x}"),
+            });
+        let pairs: Vec<String> = pairs.collect();
         let text: String = bytes.iter().map(|byte| printable(*byte)).collect();
         let width = ROW * 3 - 1;
         writeln!(
