@@ -1,5 +1,6 @@
 //! Runs a case through model, library and the fast writing, and compares all that they give.
 
+use crate::calls::{Call, Kind};
 use crate::case::Case;
 use crate::common::modelled;
 use crate::laid::Laid;
@@ -8,7 +9,7 @@ use crate::looks::Look;
 use crate::offsets::Named;
 use crate::shapes::Shape;
 use crate::slacks::Slack;
-use crate::tally::{Call, Tally};
+use crate::tally::Tally;
 use crate::touches::Touch;
 use beamsatchel_model::{self as model, Request, WrittenShare};
 use beamsatchel_node::ffi::{
@@ -50,7 +51,7 @@ impl Checker {
         compare_read(&before);
         demand_1(&before, &answer, case);
         compare_view(&before.container, &answer);
-        let call = Call::of_request(&case.request);
+        let call = Call::Apply(Kind::of_request(&case.request));
         self.tally.outcome(call, answer.number, || show(&before));
         self.tally
             .looks(call, Look::of_case(&before, answer.number));
@@ -266,8 +267,9 @@ fn demand_parts(view: Share, share: &model::NewShare) {
     assert_eq!(parts.len(), view.edition().parts().len());
 }
 
-/// Lent for reading only, a container answers reads, and takes every other request for an empty one.
-fn compare_read(before: &Case) {
+/// Lent for reading only, a container answers reads, and takes every other request for an empty one. Gives the answer
+/// and the reply space after it.
+pub fn compare_read(before: &Case) -> (model::Answer, Vec<u8>) {
     let mut by_library = before.reply.clone();
     let library = ffi::read(&before.container, &before.request, &mut by_library);
 
@@ -285,6 +287,7 @@ fn compare_read(before: &Case) {
         "read differs\n{}\nmodel   {answer:?}\nlibrary {library:?}",
         show(before)
     );
+    (answer, by_library)
 }
 
 /// A refused request changes no container byte; reply space changes only when a request is done, or when a failed
@@ -329,7 +332,7 @@ fn compare_view(container: &[u8], answer: &model::Answer) {
     }
 }
 
-fn of(raw: RawAnswer) -> model::Answer {
+pub fn of(raw: RawAnswer) -> model::Answer {
     model::Answer {
         number: raw.number,
         node: raw.node,
@@ -412,7 +415,7 @@ fn show_share(share: &model::NewShare, space: &[u8]) -> String {
 }
 
 /// The length and the bytes, but for zeros at the end; of a long container only the first.
-fn hex(bytes: &[u8]) -> String {
+pub fn hex(bytes: &[u8]) -> String {
     let used = bytes
         .iter()
         .rposition(|byte| *byte != 0)

@@ -1,9 +1,9 @@
 //! Create, on buffers of any length and with any bytes in them.
 
+use crate::calls::{Beside, Call};
 use crate::checker::Checker;
 use crate::containers::{self, MAX_LENGTH};
 use crate::rng::Rng;
-use crate::tally::{Beside, Call};
 use beamsatchel_model::MAGIC;
 
 pub fn run(cases: u64, rng: &mut Rng, checker: &mut Checker) {

@@ -43,7 +43,8 @@ pub fn run(cases: u64, rng: &mut Rng, checker: &mut Checker) {
     }
 }
 
-fn test_and_write(request: &[u8]) -> TestAndWrite {
+/// A test-and-write that was accepted.
+pub fn test_and_write(request: &[u8]) -> TestAndWrite {
     match Request::from_bytes(request) {
         Some(Request::TestAndWrite(request)) => request,
         other => panic!("accepted as a test-and-write: {other:?}"),
@@ -88,15 +89,22 @@ pub fn next_request(
 ) -> Case {
     let parts = Container::from_bytes(&container).expect("well formed");
     let request = sort(rng, &parts);
-    let length = requests::reply_length(&request, &parts);
+    let (request, reply) = bytes_for(rng, &request, &parts);
     Case {
         container,
-        request: match rng.below(100) {
-            0..95 => requests::encode(&request),
-            _ => requests::broken(rng, &request),
-        },
-        reply: requests::reply_space(rng, length),
+        request,
+        reply,
     }
+}
+
+/// The bytes of a request for a well-formed container, now and then of a broken one, and reply space for it.
+pub fn bytes_for(rng: &mut Rng, request: &Request, container: &Container) -> (Vec<u8>, Vec<u8>) {
+    let length = requests::reply_length(request, container);
+    let bytes = match rng.below(100) {
+        0..95 => requests::encode(request),
+        _ => requests::broken(rng, request),
+    };
+    (bytes, requests::reply_space(rng, length))
 }
 
 /// The data after a history, from its accepted test-and-writes alone: a byte is what was written

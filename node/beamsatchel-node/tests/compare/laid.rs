@@ -1,8 +1,8 @@
 //! How shares were laid out that were checked or written, at each edge and one past it: segments of MDMF, offsets,
 //! lengths and versions of both editions.
 
+use crate::calls::Call;
 use crate::shares::{offset_fields, Segments};
-use crate::tally::Call;
 use beamsatchel_model::{check_share, NewEdition, NewShare};
 use beamsatchel_node::Edition;
 

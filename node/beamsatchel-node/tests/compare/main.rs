@@ -1,15 +1,16 @@
 //! The library against the model of the rules (docs/RULES.md): answer record, whole container,
-//! whole reply space, whole space of a share.
+//! whole reply space, whole never-written list, whole space of a share.
 //!
 //! `BEAMSATCHEL_SEED` sets another seed, `BEAMSATCHEL_CASES` a longer run; with only some thousand
 //! cases a run does not meet all that is asked for, and fails for it. The run prints how often each
 //! outcome and each pair of outcomes was met, where tests and reads looked, what offsets from the end
-//! named, what test-and-writes touched, where the count stood, what was met in long containers, of
-//! which shapes shares to be written were, and how shares of both editions were laid out; it fails where a
-//! possible one was not met, and at once where an impossible outcome is or a byte changed that a
-//! test-and-write leaves alone.
+//! named, what test-and-writes touched, where the count stood, what was met in long containers, what
+//! never-written lists were like and what became of them, of which shapes shares to be written were, and
+//! how shares of both editions were laid out; it fails where a possible one was not met, and at once where
+//! an impossible outcome is or a byte changed that a test-and-write leaves alone.
 
 mod apart;
+mod calls;
 mod case;
 mod checker;
 #[path = "../common/mod.rs"]
@@ -19,6 +20,7 @@ mod creates;
 mod edges;
 mod histories;
 mod laid;
+mod lists;
 mod long;
 mod looks;
 mod new_share_pairs;
@@ -42,7 +44,7 @@ use rng::Rng;
 use std::time::Instant;
 
 const DEFAULT_SEED: u64 = 0xBEA5_A7C4_E100_0001;
-const DEFAULT_CASES: u64 = 1_000_000;
+const DEFAULT_CASES: u64 = 1_125_000;
 
 fn main() {
     let seed = from_environment("BEAMSATCHEL_SEED", DEFAULT_SEED);
@@ -65,8 +67,17 @@ fn main() {
     };
     section("edges", &|rng, checker| edges::run(rng, checker));
     section("long containers", &|rng, checker| long::run(rng, checker));
+    section("edges of lists", &|rng, checker| {
+        lists::edges::run(rng, checker)
+    });
+    section("long beside lists", &|rng, checker| {
+        lists::long::run(rng, checker)
+    });
     section("pairs", &|rng, checker| {
         pairs::run(cases / 20_000, rng, checker)
+    });
+    section("pairs beside lists", &|rng, checker| {
+        lists::pairs::run(cases / 100_000, rng, checker)
     });
     section("pairs in shares", &|rng, checker| {
         share_pairs::run(cases / 50_000, rng, checker)
@@ -89,6 +100,15 @@ fn main() {
     });
     section("woven histories", &|rng, checker| {
         woven::run(cases / 5, rng, checker)
+    });
+    section("lists in histories", &|rng, checker| {
+        lists::histories::run(cases / 40, rng, checker)
+    });
+    section("woven with lists", &|rng, checker| {
+        lists::woven::run(cases / 50, rng, checker)
+    });
+    section("beside lists", &|rng, checker| {
+        lists::singles::run(cases / 25, rng, checker)
     });
     section("slack apart", &|rng, checker| {
         apart::run(cases / 10, rng, checker)

@@ -2,11 +2,11 @@
 //! both the lower. Any two can be had together. One cannot be had without another: where the segment size of SDMF is
 //! 2^64 or more (24), share data of the length that 28 asks for would be more than any memory has.
 
+use crate::calls::{Beside, Call};
 use crate::checker::Checker;
 use crate::new_shares::Case;
 use crate::rng::Rng;
 use crate::shares::{header, Draft};
-use crate::tally::{Beside, Call};
 use beamsatchel_node::Edition;
 
 pub fn run(rounds: u64, rng: &mut Rng, checker: &mut Checker) {

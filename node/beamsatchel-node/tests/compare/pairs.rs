@@ -1,32 +1,28 @@
 //! Every two outcomes of a request that can apply together: a case with the one flaw gives the
 //! one, with the other flaw the other, and with both the lower.
 
+use crate::calls::{Call, Kind};
 use crate::case::Case;
 use crate::checker::Checker;
 use crate::containers::{self, Sizes};
 use crate::requests;
 use crate::rng::Rng;
-use crate::tally::{Beside, Call};
 use beamsatchel_model::{grow, place, Container, Lease, Read, Request, Test, TestAndWrite, Write};
 
-const CALLS: [Call; 6] = [
-    Call::TestAndWrite,
-    Call::Add,
-    Call::Renew,
-    Call::Cancel,
-    Call::Read,
-    Call::UnknownKind,
-];
-
 pub fn run(rounds: u64, rng: &mut Rng, checker: &mut Checker) {
-    for call in CALLS {
+    for kind in Kind::ALL {
+        let call = Call::Apply(kind);
         for pair @ (low, high) in call.pairs() {
             for &slack in call.slacks() {
                 for round in 0..(rounds / 2).max(10) {
-                    let reaching = Reaching::ALL[round as usize % Reaching::ALL.len()];
+                    let reaching = Reaching::of_round(round);
                     for (flaws, number) in [(&[low][..], low), (&[high], high), (&[low, high], low)]
                     {
-                        let answer = checker.apply(&mut case(call, flaws, slack, reaching, rng));
+                        let has = |flaw: u32| flaws.contains(&flaw);
+                        let slack = slack.some(rng);
+                        let (container, request) = parts(kind, &has, slack, reaching, rng);
+                        let mut case = case(kind, &has, &container, &request, rng);
+                        let answer = checker.apply(&mut case);
                         assert_eq!(
                             answer.number, number,
                             "{call:?} with flaws {flaws:?}, {reaching:?}"
@@ -41,7 +37,7 @@ pub fn run(rounds: u64, rng: &mut Rng, checker: &mut Checker) {
 
 /// What of a test-and-write reaches before the start of the data where flaw 4 is wanted.
 #[derive(Clone, Copy, Debug)]
-enum Reaching {
+pub enum Reaching {
     Test,
     /// It would not on the data that the writes leave.
     TestDespiteGrowth,
@@ -61,19 +57,43 @@ impl Reaching {
         Reaching::WriteDespiteGrowth,
         Reaching::WriteBehindEmpty,
     ];
+
+    /// Each in turn.
+    pub fn of_round(round: u64) -> Reaching {
+        Reaching::ALL[round as usize % Reaching::ALL.len()]
+    }
 }
 
-/// A case of a call with exactly these flaws, each named by its outcome.
-fn case(call: Call, flaws: &[u32], slack: Beside, reaching: Reaching, rng: &mut Rng) -> Case {
-    let has = |flaw| flaws.contains(&flaw);
-    let slack = slack.some(rng);
-    let (container, request) = match call {
-        Call::TestAndWrite => test_and_write(&has, slack, reaching, rng),
-        Call::Add => add(&has, slack, rng),
-        Call::Renew | Call::Cancel => renew_or_cancel(call, &has, slack, rng),
-        _ => read(&has, slack, rng),
-    };
-    let needed = requests::reply_length(&request, &container);
+/// A container and a request of a kind with these flaws, each named by its outcome, but for those of their bytes: a
+/// broken container, a broken request, too little reply space.
+pub fn parts(
+    kind: Kind,
+    has: &dyn Fn(u32) -> bool,
+    slack: usize,
+    reaching: Reaching,
+    rng: &mut Rng,
+) -> (Container, Request) {
+    match kind {
+        Kind::TestAndWrite => {
+            let container = small_container(slack, rng);
+            let request = test_and_write(has, &container, reaching, rng);
+            (container, Request::TestAndWrite(request))
+        }
+        Kind::Add => add(has, slack, rng),
+        Kind::Renew | Kind::Cancel => renew_or_cancel(kind, has, slack, rng),
+        Kind::Read | Kind::Unknown => read(has, slack, rng),
+    }
+}
+
+/// Their bytes, with the flaws of these.
+pub fn case(
+    kind: Kind,
+    has: &dyn Fn(u32) -> bool,
+    container: &Container,
+    request: &Request,
+    rng: &mut Rng,
+) -> Case {
+    let needed = requests::reply_length(request, container);
     let space = if has(7) {
         rng.below(needed)
     } else {
@@ -81,13 +101,13 @@ fn case(call: Call, flaws: &[u32], slack: Beside, reaching: Reaching, rng: &mut 
     };
     Case {
         reply: rng.bytes(space),
-        request: match (call, has(3)) {
+        request: match (kind, has(3)) {
             // An unknown kind breaks the format whether it is asked to or not.
-            (Call::UnknownKind, _) => requests::unknown(rng),
-            (_, true) => requests::broken(rng, &request),
-            (_, false) => requests::encode(&request),
+            (Kind::Unknown, _) => requests::unknown(rng),
+            (_, true) => requests::broken(rng, request),
+            (_, false) => requests::encode(request),
         },
-        container: container_bytes(&has, &container, rng),
+        container: container_bytes(has, container, rng),
     }
 }
 
@@ -116,15 +136,15 @@ fn small_container(slack: usize, rng: &mut Rng) -> Container {
     containers::with(rng, sizes, 20)
 }
 
-fn test_and_write(
+/// A test-and-write for a container, with these flaws.
+pub fn test_and_write(
     has: &dyn Fn(u32) -> bool,
-    slack: usize,
+    container: &Container,
     reaching: Reaching,
     rng: &mut Rng,
-) -> (Container, Request) {
-    let container = small_container(slack, rng);
+) -> TestAndWrite {
     let size = container.data.len();
-    let room = slack + container.length - container.used() as usize;
+    let room = container.slack + container.length - container.used() as usize;
     let mut enabler = container.enabler;
     if has(5) {
         enabler[rng.below(32)] ^= 1 << rng.below(8);
@@ -155,13 +175,12 @@ fn test_and_write(
     if has(4) {
         reach_before_start(reaching, size as u64, &mut tests, &mut writes, rng);
     }
-    let request = TestAndWrite {
+    TestAndWrite {
         enabler,
         tests,
         writes,
         cut: None,
-    };
-    (container, Request::TestAndWrite(request))
+    }
 }
 
 /// Adds a test or a write that reaches before the start of the data, whose size before the request is this.
@@ -216,7 +235,7 @@ fn before_start(rng: &mut Rng, size: u64) -> i32 {
     rng.pick(&[by_a_byte, by_a_byte, by_more, i32::MIN])
 }
 
-fn write_at(position: u64, data: &[u8]) -> Write {
+pub fn write_at(position: u64, data: &[u8]) -> Write {
     Write {
         offset: position as i32,
         data: data.to_vec(),
@@ -255,7 +274,7 @@ fn leased(leases: usize, slack: usize, room: usize, rng: &mut Rng) -> Container 
 }
 
 fn renew_or_cancel(
-    call: Call,
+    kind: Kind,
     has: &dyn Fn(u32) -> bool,
     slack: usize,
     rng: &mut Rng,
@@ -264,13 +283,13 @@ fn renew_or_cancel(
     let room = rng.below(100);
     let container = leased(leases, slack, room, rng);
     let slot = rng.below(leases);
-    let request = match (call, has(9)) {
-        (Call::Renew, false) => Request::Renew {
+    let request = match (kind, has(9)) {
+        (Kind::Renew, false) => Request::Renew {
             token: containers::own_token(slot),
             expiry: containers::expiry(rng),
         },
         // The other token of a lease does not do.
-        (Call::Renew, true) => Request::Renew {
+        (Kind::Renew, true) => Request::Renew {
             token: containers::own_token(100 + slot),
             expiry: containers::expiry(rng),
         },

@@ -1,11 +1,11 @@
 //! Every two outcomes of a share that can apply together, for each edition: a share with the one flaw gives the one,
 //! with the other flaw the other, and with both the lower.
 
+use crate::calls::{Beside, Call};
 use crate::checker::Checker;
 use crate::containers;
 use crate::rng::Rng;
 use crate::shares::{container_with, header, offset_fields, Draft};
-use crate::tally::{Beside, Call};
 use beamsatchel_node::Edition;
 
 pub fn run(rounds: u64, rng: &mut Rng, checker: &mut Checker) {

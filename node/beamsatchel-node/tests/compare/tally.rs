@@ -1,129 +1,18 @@
 //! How often each outcome, each pair of outcomes, each look at the data, each thing that an offset from the end named,
-//! each touch of the data, each place of the count, each thing in a long container, each shape of a new share and each
-//! way in which a share was laid out was met.
+//! each touch of the data, each place of the count, each thing in a long container, each thing that became of a
+//! never-written list, each shape of a new share and each way in which a share was laid out was met.
 
+use crate::calls::{Beside, Call};
 use crate::laid::Laid;
+use crate::lists::Listing;
 use crate::long::Long;
 use crate::looks::Look;
 use crate::offsets::Named;
-use crate::rng::Rng;
 use crate::shapes::Shape;
 use crate::slacks::Slack;
 use crate::touches::Touch;
 use beamsatchel_node::Edition;
 use std::collections::{BTreeMap, BTreeSet};
-
-/// What was called; for apply, by the request's first byte, for the check of a share, by the edition that it tells.
-#[derive(Clone, Copy, Debug, PartialEq, Eq, PartialOrd, Ord)]
-pub enum Call {
-    Create,
-    TestAndWrite,
-    Add,
-    Renew,
-    Cancel,
-    Read,
-    UnknownKind,
-    BareShare(Edition),
-    ShareInContainer(Edition),
-    WriteShare(Edition),
-}
-
-impl Call {
-    pub const ALL: [Call; 13] = [
-        Call::Create,
-        Call::TestAndWrite,
-        Call::Add,
-        Call::Renew,
-        Call::Cancel,
-        Call::Read,
-        Call::UnknownKind,
-        Call::BareShare(Edition::Sdmf),
-        Call::BareShare(Edition::Mdmf),
-        Call::ShareInContainer(Edition::Sdmf),
-        Call::ShareInContainer(Edition::Mdmf),
-        Call::WriteShare(Edition::Sdmf),
-        Call::WriteShare(Edition::Mdmf),
-    ];
-
-    /// Those that look at the data and reply with pieces of it.
-    pub const LOOKING: [Call; 2] = [Call::TestAndWrite, Call::Read];
-
-    /// The call that applies a request.
-    pub fn of_request(request: &[u8]) -> Call {
-        match request.first() {
-            Some(1) => Call::TestAndWrite,
-            Some(2) => Call::Add,
-            Some(3) => Call::Renew,
-            Some(4) => Call::Cancel,
-            Some(5) => Call::Read,
-            _ => Call::UnknownKind,
-        }
-    }
-
-    /// The outcomes that it can have, by the last column of the outcome table and the rules for shares. Where no share
-    /// is looked at, or one of another version, no edition is told but SDMF.
-    pub fn outcomes(self) -> &'static [u32] {
-        match self {
-            Call::Create => &[0, 1, 3, 12],
-            Call::TestAndWrite => &[0, 1, 2, 3, 4, 5, 7, 8, 11],
-            Call::Add => &[0, 1, 2, 3, 10, 11],
-            Call::Renew | Call::Cancel => &[0, 1, 2, 3, 9],
-            Call::Read => &[0, 1, 2, 3, 4, 7],
-            Call::UnknownKind => &[1, 2, 3],
-            Call::BareShare(Edition::Sdmf) => &[0, 21, 22, 23, 24, 25, 26, 27, 28, 29],
-            Call::ShareInContainer(Edition::Sdmf) => &[0, 1, 2, 21, 22, 23, 24, 25, 26, 27, 28, 29],
-            Call::BareShare(Edition::Mdmf) | Call::ShareInContainer(Edition::Mdmf) => {
-                &[0, 21, 23, 24, 25, 26, 27, 28, 29]
-            }
-            Call::WriteShare(_) => &[0, 3, 7, 23, 24, 25, 26, 27, 28, 29],
-        }
-    }
-
-    /// Whether pairs are to be met without slack and beside it, or there is no container that could have it.
-    pub fn slacks(self) -> &'static [Beside] {
-        match self {
-            Call::Create | Call::BareShare(_) | Call::WriteShare(_) => &[Beside::NoSlack],
-            _ => &[Beside::NoSlack, Beside::Slack],
-        }
-    }
-
-    /// The pairs of refusals that can apply together: for one call, any two of them. What is laid out as MDMF may have
-    /// another version, or lie in a container that is refused.
-    pub fn pairs(self) -> Vec<(u32, u32)> {
-        let outcomes = match self {
-            Call::BareShare(_) => Call::BareShare(Edition::Sdmf).outcomes(),
-            Call::ShareInContainer(_) => Call::ShareInContainer(Edition::Sdmf).outcomes(),
-            _ => self.outcomes(),
-        };
-        let refusals = outcomes.iter().copied().filter(|number| *number != 0);
-        refusals
-            .clone()
-            .flat_map(|low| {
-                refusals
-                    .clone()
-                    .filter(move |high| low < *high)
-                    .map(move |high| (low, high))
-            })
-            .collect()
-    }
-}
-
-/// Whether the container of a pair of outcomes has slack.
-#[derive(Clone, Copy, Debug, PartialEq, Eq, PartialOrd, Ord)]
-pub enum Beside {
-    NoSlack,
-    Slack,
-}
-
-impl Beside {
-    /// So much slack.
-    pub fn some(self, rng: &mut Rng) -> usize {
-        match self {
-            Beside::NoSlack => 0,
-            Beside::Slack => rng.pick(&[1, 2, 7, 8, 92, 100]),
-        }
-    }
-}
 
 #[derive(Default)]
 pub struct Tally {
@@ -140,6 +29,7 @@ pub struct Tally {
     /// The N of shares that were written.
     totals: BTreeSet<(Edition, u8)>,
     laid: BTreeMap<(Call, Laid), u64>,
+    listings: BTreeMap<Listing, u64>,
 }
 
 impl Tally {
@@ -154,8 +44,8 @@ impl Tally {
         *self.outcomes.entry((call, number)).or_default() += 1;
     }
 
-    pub fn pair(&mut self, call: Call, slack: Beside, (low, high): (u32, u32)) {
-        *self.pairs.entry((call, slack, low, high)).or_default() += 1;
+    pub fn pair(&mut self, call: Call, slack: Beside, (first, second): (u32, u32)) {
+        *self.pairs.entry((call, slack, first, second)).or_default() += 1;
     }
 
     pub fn looks(&mut self, call: Call, looks: Vec<Look>) {
@@ -206,17 +96,23 @@ impl Tally {
         }
     }
 
+    pub fn listings(&mut self, listings: impl IntoIterator<Item = Listing>) {
+        for listing in listings {
+            *self.listings.entry(listing).or_default() += 1;
+        }
+    }
+
     pub fn print(&self) {
         println!("\nhow often each outcome was met:");
-        for call in Call::ALL {
+        for call in Call::all() {
             let met = self.outcomes.iter().filter(|((of, _), _)| *of == call);
             let met: Vec<String> = met
                 .map(|((_, number), count)| format!("{number}: {count}"))
                 .collect();
-            println!("  {:>22}  {}", format!("{call:?}"), met.join(", "));
+            println!("  {:>25}  {}", format!("{call:?}"), met.join(", "));
         }
         println!("\npairs of outcomes met together, each alone and both:");
-        for call in Call::ALL {
+        for call in Call::all() {
             for &beside in call.slacks() {
                 let met: Vec<u64> = self
                     .pairs
@@ -225,7 +121,7 @@ impl Tally {
                     .map(|(_, count)| *count)
                     .collect();
                 println!(
-                    "  {:>22}  {} of {} pairs, each at least {} times{}",
+                    "  {:>25}  {} of {} pairs, each at least {} times{}",
                     format!("{call:?}"),
                     met.len(),
                     call.pairs().len(),
@@ -243,7 +139,7 @@ impl Tally {
             let met: Vec<String> = met
                 .map(|((_, look), count)| format!("{look:?}: {count}"))
                 .collect();
-            println!("  {:>22}  {}", format!("{call:?}"), met.join(", "));
+            println!("  {:>25}  {}", format!("{call:?}"), met.join(", "));
         }
         println!("\nwhat offsets from the end named, and on which size:");
         let met: Vec<String> = self
@@ -273,6 +169,13 @@ impl Tally {
             .map(|(long, count)| format!("{long:?}: {count}"))
             .collect();
         println!("  {}", met.join(", "));
+        println!("\nwhat never-written lists were like, and what became of them:");
+        let met: Vec<String> = self
+            .listings
+            .iter()
+            .map(|(listing, count)| format!("{listing:?}: {count}"))
+            .collect();
+        println!("  {}", met.join(", "));
         for edition in Edition::ALL {
             let totals = self.totals.iter().filter(|(of, _)| *of == edition);
             let totals = totals.count();
@@ -284,33 +187,33 @@ impl Tally {
             println!("  {}", met.join(", "));
         }
         println!("\nhow shares were laid out, but for lengths and versions:");
-        for call in Call::ALL {
+        for call in Call::all() {
             let met = self.laid.iter().filter(|((of, _), _)| *of == call);
             let met: Vec<String> = met
                 .filter(|((_, laid), _)| !laid.is_one_of_many())
                 .map(|((_, laid), count)| format!("{laid:?}: {count}"))
                 .collect();
             if !met.is_empty() {
-                println!("  {:>22}  {}", format!("{call:?}"), met.join(", "));
+                println!("  {:>25}  {}", format!("{call:?}"), met.join(", "));
             }
         }
         println!();
     }
 
-    /// Every possible outcome, pair, look, offset from the end, touch, place of the count, long container, shape and
-    /// layout was met, and every N.
+    /// Every possible outcome, pair, look, offset from the end, touch, place of the count, long container, list, shape
+    /// and layout was met, and every N.
     pub fn demand_all(&self) {
-        for call in Call::ALL {
+        for call in Call::all() {
             for number in call.outcomes() {
                 let met = self.outcomes.contains_key(&(call, *number));
                 assert!(met, "{call:?}: outcome {number} was never met");
             }
-            for (low, high) in call.pairs() {
+            for (first, second) in call.pairs() {
                 for slack in call.slacks() {
-                    let met = self.pairs.contains_key(&(call, *slack, low, high));
+                    let met = self.pairs.contains_key(&(call, *slack, first, second));
                     assert!(
                         met,
-                        "{call:?}, {slack:?}: outcomes {low} and {high} were never met together"
+                        "{call:?}, {slack:?}: outcomes {first} and {second} were never met together"
                     );
                 }
             }
@@ -333,6 +236,10 @@ impl Tally {
         for long in Long::ALL {
             assert!(self.longs.contains_key(&long), "{long:?} was never met");
         }
+        for listing in Listing::all() {
+            let met = self.listings.contains_key(&listing);
+            assert!(met, "{listing:?} was never met");
+        }
         for edition in Edition::ALL {
             for shape in Shape::all(edition) {
                 let met = self.shapes.contains_key(&(edition, shape));
@@ -343,7 +250,7 @@ impl Tally {
                 assert!(met, "no {edition} share with N = {n} was written");
             }
         }
-        for call in Call::ALL {
+        for call in Call::all() {
             for laid in Laid::all(call) {
                 let met = self.laid.contains_key(&(call, laid));
                 assert!(met, "{call:?}: {laid:?} was never met");

@@ -12,10 +12,10 @@ use crate::rng::Rng;
 use beamsatchel_model::{self as model, Container, Request};
 
 /// A request and the reply space that it has in both histories.
-type Sent = (Vec<u8>, Vec<u8>);
+pub type Sent = (Vec<u8>, Vec<u8>);
 
 /// A request's answer and the reply space afterwards.
-type Answered = (model::Answer, Vec<u8>);
+pub type Answered = (model::Answer, Vec<u8>);
 
 pub fn run(cases: u64, rng: &mut Rng, checker: &mut Checker) {
     let until = checker.tally.cases + cases;
@@ -55,7 +55,11 @@ pub fn run(cases: u64, rng: &mut Rng, checker: &mut Checker) {
 
 /// Requests of one sort, each made for what those before it leave. Those that meet outcome 11 by
 /// themselves are left out, so that most pairs can be compared.
-fn sequence(rng: &mut Rng, fresh: &[u8], sort: fn(&mut Rng, &Container) -> Request) -> Vec<Sent> {
+pub fn sequence(
+    rng: &mut Rng,
+    fresh: &[u8],
+    sort: fn(&mut Rng, &Container) -> Request,
+) -> Vec<Sent> {
     let mut container = fresh.to_vec();
     let mut sent = Vec::new();
     for _ in 0..rng.below(40) {
@@ -69,7 +73,7 @@ fn sequence(rng: &mut Rng, fresh: &[u8], sort: fn(&mut Rng, &Container) -> Reque
 }
 
 /// An order: `true` for the next read or test-and-write, `false` for the next lease request.
-fn weave(rng: &mut Rng, data: &[Sent], leases: &[Sent]) -> Vec<bool> {
+pub fn weave(rng: &mut Rng, data: &[Sent], leases: &[Sent]) -> Vec<bool> {
     let mut way = vec![true; data.len()];
     match rng.below(10) {
         // one sort after the other
