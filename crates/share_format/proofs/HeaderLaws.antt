@@ -1,24 +1,22 @@
 -- The header as it is written: the lengths of its fields, what fits them, and numbers in fields one behind the other,
 -- both ways. Assumes nothing.
 use mathlib.Core.Path.{_≡_, refl, sym, ap, _∙_}
-use mathlib.Core.Bool.{Bool, true, false, _&&_, false≢true}
+use mathlib.Core.Bool.{true, false}
 use mathlib.Core.List.{List, [], _∷_, _++_, append-assoc}
-use Prim.Native.Nat.{ℕ, zero, suc, _+_, _^_, _≤_, _<_}
+use Prim.Native.Nat.{ℕ, _+_, _^_, _≤_, _<_}
 use native.Mathlib.Omega.{arith}
-use lib.Dec.{leb, ltb}
-use lib.ListN.{length, take, drop, getD, length-append}
-use borrow.Author.Tests.{leb-true, leb-false, lt-ltb, le-ltb, ltb-true, ltb-false}
-use Rattle.octets.specs.Facts.{Each, Fits64, Octets}
+use lib.ListN.{length, take, drop, length-append}
+use borrow.Author.Tests.{lt-ltb, le-ltb, ltb-true, ltb-false}
+use Rattle.octets.specs.Facts.{Each, Octets}
 use Rattle.octets.specs.Lists.{sum}
 use Rattle.octets.specs.Numbers.{number, numberAt, digits, fits}
 use Rattle.octets.specs.Strings.{join}
-use Rattle.octets.proofs.ListLaws.{both, and-true, field-then, field-back}
+use Rattle.octets.proofs.ListLaws.{both, field-then, field-back}
 use Rattle.octets.proofs.NumberLaws.{length-digits, number-digits, digits-at, numberAt-below, octets-digits}
-use Rattle.share_format.specs.Header.{Edition, hashSize, ivSize, numberSize, offsetSize, offsetSizes, offsetsAt}
+use Rattle.share_format.specs.Header.{Edition, hashSize, ivSize, numberSize, offsetSizes, offsetsAt}
 use Rattle.share_format.specs.Header.{headerSize, numbersFrom, digitsOf, eachFits, toldOf, numberFields}
 use Rattle.share_format.specs.Header.{offsetFields, offsetsFit}
 use Rattle.share_format.specs.Claims.{FitEach}
-use Rattle.share_format.specs.Facts.{NarrowOffsets}
 
 -- ---- lengths
 pub length-numbers : (e : Edition) (sequence : ℕ) (root iv : List ℕ) (required total segment dataLength : ℕ)
@@ -56,47 +54,6 @@ pub past-64 : (v : ℕ) → fits numberSize v ≡ false → 18446744073709551616
 unfolding fits
 past-64 v e = ltb-false _ _ e
 
-narrow : (v : ℕ) → fits offsetSize v ≡ leb v 4294967295
-unfolding fits
-narrow v = go (leb v 4294967295) refl
-  where
-    go : (t : Bool) → leb v 4294967295 ≡ t → ltb v 4294967296 ≡ t
-    go true e = lt-ltb v 4294967296 (omega (arith, leb-true v 4294967295 e))
-    go false e = le-ltb v 4294967296 (omega (arith, leb-false v 4294967295 e))
-
--- Each of some numbers of 64 bits, and none where there is none.
-each-at : (bs : List ℕ) → Each Fits64 bs → (i : ℕ) → Fits64 (getD bs i 0)
-each-at [] f i = omega arith
-each-at (b ∷ bs) f zero = f .0
-each-at (b ∷ bs) f (suc i) = each-at bs (f .1) i
-
-pub fits-four : (bs : List ℕ) → Each Fits64 bs
-    → offsetsFit false bs
-    ≡ (leb (getD bs 1 0) 4294967295
-    && (leb (getD bs 2 0) 4294967295 && (leb (getD bs 3 0) 4294967295 && leb (getD bs 4 0) 4294967295)))
-unfolding offsetsFit eachFits toldOf
-fits-four bs f =
-    rw (narrow (getD bs 1 0), narrow (getD bs 2 0), narrow (getD bs 3 0), narrow (getD bs 4 0))
-    (rw (
-      fits-64 (getD bs 5 0) (each-at bs f 5),
-      fits-64 (getD bs 6 0) (each-at bs f 6),
-      and-true (leb (getD bs 4 0) 4294967295),
-    ))
-
-pub fits-all : (bs : List ℕ) → Each Fits64 bs → offsetsFit true bs ≡ true
-unfolding offsetsFit eachFits toldOf
-fits-all bs f =
-    rw (
-      fits-64 (getD bs 0 0) (each-at bs f 0),
-      fits-64 (getD bs 1 0) (each-at bs f 1),
-      fits-64 (getD bs 2 0) (each-at bs f 2),
-      fits-64 (getD bs 3 0) (each-at bs f 3),
-      fits-64 (getD bs 4 0) (each-at bs f 4),
-      fits-64 (getD bs 5 0) (each-at bs f 5),
-      fits-64 (getD bs 6 0) (each-at bs f 6),
-      fits-64 (getD bs 7 0) (each-at bs f 7),
-    )
-
 each-facts : (ns vs : List ℕ) → eachFits ns vs ≡ true → FitEach ns vs
 unfolding eachFits fits
 each-facts [] vs e = tt
@@ -118,13 +75,6 @@ offset-facts e bs h = each-facts (offsetSizes e) (toldOf e bs) h
 pub offsets-fit : (e : Edition) (bs : List ℕ) → FitEach (offsetSizes e) (toldOf e bs) → offsetsFit e bs ≡ true
 unfolding offsetsFit
 offsets-fit e bs f = each-true (offsetSizes e) (toldOf e bs) f
-
-pub narrow-facts : (e : Edition) (bs : List ℕ) → offsetsFit e bs ≡ true → e ≡ false → NarrowOffsets bs
-unfolding toldOf
-narrow-facts true bs h r = absurd (false≢true (sym r))
-narrow-facts false bs h r =
-    let f = offset-facts false bs h in
-    record { signature = f .0; chain = f .1 .0; tree = f .1 .1 .0; shareData = f .1 .1 .1 .0 }
 
 -- ---- numbers in fields, one behind the other
 -- Written from p on, they are read back.

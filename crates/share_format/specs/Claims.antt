@@ -1,12 +1,11 @@
--- What some of the definitions mean (docs/RULES.md, S31, S32, S55), proved in proofs/; shares made of bytes.
+-- What the least multiple means (docs/RULES.md, S31), proved in proofs/; numbers that fit their fields; shares made of
+-- bytes.
 use mathlib.Core.Path.{_≡_}
 use mathlib.Core.List.{List, [], _∷_}
-use Prim.Native.Nat.{ℕ, _*_, _%_, _^_, _≤_, _<_}
+use Prim.Native.Nat.{ℕ, _%_, _^_, _≤_, _<_}
 use Rattle.octets.specs.Facts.{Each, Octets, Fits64}
-use Rattle.share_format.specs.Nodes.{depth, power}
 use Rattle.share_format.specs.Parts.{Share, sdmf, mdmf, leastMultiple, sequenceIn, rootIn, ivIn, requiredIn}
 use Rattle.share_format.specs.Parts.{totalIn, lengthIn, partList}
-use Rattle.share_format.specs.Rows.{roundedUp}
 
 -- m is the least multiple of k at or above n (S31).
 pub record Least (k n m : ℕ) : Type 0 where
@@ -16,14 +15,6 @@ pub record Least (k n m : ℕ) : Type 0 where
 
 abbrev pub MultipleIsLeast : Type 0
 MultipleIsLeast = (k n : ℕ) → 0 < k → Least k n (leastMultiple k n)
-
--- The depth of the tree over n leaves is the least c with n at most 2^c (S32, S56).
-abbrev pub DepthIsLeast : Type 0
-DepthIsLeast = (n : ℕ) → (n ≤ power (depth n)) × ((c : ℕ) → n ≤ power c → depth n ≤ c)
-
--- n / k rounded up is the least number of which k times reaches n (S55).
-abbrev pub RoundedIsLeast : Type 0
-RoundedIsLeast = (n k : ℕ) → 0 < k → (n ≤ roundedUp n k * k) × ((q : ℕ) → n ≤ q * k → roundedUp n k ≤ q)
 
 -- Each number fits its field of so many bytes; what `eachFits` tests (S9 to S14, S50).
 abbrev pub FitEach : List ℕ → List ℕ → Type 0

@@ -7,7 +7,7 @@ ghost use Rattle.share_format.specs.Facts.{PartInside};
 
 // Whether each part has at least its least size. The boundaries are compared as they stand; only those that are in
 // order are used as places in the slice.
-pub(crate) fn in_order(bounds: &[u64], least: &[u64]) -> bool
+pub fn in_order(bounds: &[u64], least: &[u64]) -> bool
     requires { ⌜ length (now bounds) ≡ suc (length (now least)) ⌝ }
     ensures { λ r. ⌜ r
         ≡ inOrder (now (least .entry)) (getD (now (bounds .entry)) 0 0) (drop 1 (now (bounds .entry))) ⌝ }

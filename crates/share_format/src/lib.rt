@@ -1,6 +1,4 @@
-// The layout of a share, SDMF or MDMF: its header, its parts, its hash chain, and the rows that judge it.
+// The layout of a share, SDMF or MDMF: its header, and its parts.
 pub mod bounds;
 pub mod header;
-mod nodes;
 pub mod parts;
-pub mod rows;

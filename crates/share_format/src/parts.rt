@@ -32,19 +32,19 @@ pub const MDMF_SHARE_DATA: usize = 5;
 pub const MDMF_TREE: usize = 6;
 
 // The three that the rows look into.
-pub(crate) fn chain_part(mdmf: bool) -> usize
+pub fn chain_part(mdmf: bool) -> usize
     ensures { λ r. ⌜ r ≡ chainPart mdmf ⌝ }
 {
     if mdmf { MDMF_CHAIN } else { SDMF_CHAIN }
 }
 
-pub(crate) fn tree_part(mdmf: bool) -> usize
+pub fn tree_part(mdmf: bool) -> usize
     ensures { λ r. ⌜ r ≡ treePart mdmf ⌝ }
 {
     if mdmf { MDMF_TREE } else { SDMF_TREE }
 }
 
-pub(crate) fn share_data_part(mdmf: bool) -> usize
+pub fn share_data_part(mdmf: bool) -> usize
     ensures { λ r. ⌜ r ≡ shareDataPart mdmf ⌝ }
 {
     if mdmf {

@@ -13,7 +13,7 @@ use Rattle.octets.specs.Moves.{put}
 use Rattle.octets.proofs.MoveLaws.{put-length, put-beyond}
 use Rattle.octets.proofs.RowLaws.{first-among}
 use Rattle.share_format.specs.Parts.{Share, shareLength, encode}
-use Rattle.share_format.specs.Rows.{contentRows}
+use Rattle.share_contents.specs.Contents.{contentRows}
 use Rattle.share_writing.specs.Writing.{rowsOf, writeRows, writeOutcome, writtenAnswer, spaceAfter}
 use Rattle.share_writing.specs.Claims.{writerNumbers, Demand1Writer, WritesExactly}
 use Rattle.share_writing.proofs.WritingLaws.{writable, written}

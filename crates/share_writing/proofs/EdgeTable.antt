@@ -15,14 +15,15 @@ use Rattle.octets.specs.Strings.{join}
 use Rattle.octets.proofs.ListLaws.{both, by-refuting}
 use Rattle.share_format.specs.Bounds.{inOrder, packed}
 use Rattle.share_format.specs.Header.{hashSize, saltSize, headerSize, digitsOf, eachFits, toldOf, numberFields}
-use Rattle.share_format.specs.Header.{offsetFields}
-use Rattle.share_format.specs.Header.{offsetsFit}
-use Rattle.share_format.specs.Nodes.{depthFrom, depth, power, nodesFrom, nodesOk}
+use Rattle.share_format.specs.Header.{offsetFields, offsetsFit}
+use Rattle.share_contents.specs.Nodes.{depthFrom, depth, power, nodesFrom, nodesOk}
 use Rattle.share_format.specs.Parts.{Sdmf, sdmf, partList, leastMultiple, placesOf, shareLength, encode}
-use Rattle.share_format.specs.Rows.{codingOk, segmentOk, placedOk, chainOk, roundedUp, segments, treeSize, treeOk}
-use Rattle.share_format.specs.Rows.{blocksSize, blocksOk, contentRows}
+use Rattle.share_numbers.specs.Coding.{codingOk, segmentOk}
+use Rattle.share_numbers.specs.Order.{placedOk}
+use Rattle.share_contents.specs.Contents.{chainOk, roundedUp, segments, treeSize, treeOk}
+use Rattle.share_contents.specs.Contents.{blocksSize, blocksOk, contentRows}
 use Rattle.share_format.proofs.HeaderLaws.{fits-64, offset-facts}
-use Rattle.share_format.proofs.RowLaws.{tree-few}
+use Rattle.share_contents.proofs.ContentLaws.{tree-few}
 use Rattle.share_writing.specs.Writing.{sizesOk, segmentFits, boundsFit, rowsOf, writeRows, writeOutcome}
 use Rattle.share_writing.specs.Writing.{writtenAnswer, spaceAfter}
 use Rattle.share_writing.specs.Edges.{segmented, into, resultOf, refused, WriterEdgesHold}

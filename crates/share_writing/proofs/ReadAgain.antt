@@ -28,12 +28,14 @@ use Rattle.share_format.specs.Header.{numbersFrom, offsetsOf, boundsOf, toldOf,
 use Rattle.share_format.specs.Parts.{Share, editionIn, sequenceIn, rootIn, ivIn, requiredIn, totalIn, segmentIn}
 use Rattle.share_format.specs.Parts.{lengthIn, chainIn, treeIn, shareDataIn, partList, readBy, shareOf}
 use Rattle.share_format.specs.Parts.{placesOf, shareLength, encode, chainPart, treePart, shareDataPart}
-use Rattle.share_format.specs.Rows.{codingOk, segmentOk, leastSizes, placedOk, ordered, headRows, laidRows, bodyRows}
-use Rattle.share_format.specs.Rows.{shareOutcome}
+use Rattle.share_numbers.specs.Coding.{codingOk, segmentOk}
+use Rattle.share_numbers.specs.Order.{leastSizes, placedOk}
+use Rattle.share_judging.specs.Judging.{ordered, headRows, laidRows, bodyRows, shareOutcome}
 use Rattle.share_format.proofs.BoundLaws.{lastOf}
 use Rattle.share_format.proofs.HeaderLaws.{fits-64, offsets-fit, sizes-sum, numbers-again, numbers-fit}
 use Rattle.share_format.proofs.PackedLaws.{partsBetween, between-packed, between-join}
-use Rattle.share_format.proofs.RowLaws.{order-facts, placed-tail, placed-order, placed-last}
+use Rattle.share_judging.proofs.JudgingLaws.{order-facts}
+use Rattle.share_numbers.proofs.OrderLaws.{placed-tail, placed-order, placed-last}
 use Rattle.share_writing.specs.Claims.{Writable}
 use Rattle.share_writing.specs.Writing.{sizesOk, segmentFits, boundsFit}
 use Rattle.share_writing.proofs.WritingLaws.{share-joined, done, writable}

@@ -20,11 +20,15 @@ use Rattle.share_format.specs.Header.{Edition, hashSize, ivSize, headerSize, nu
 use Rattle.share_format.specs.Parts.{Share, sdmf, mdmf, editionIn, sequenceIn, rootIn, ivIn, requiredIn}
 use Rattle.share_format.specs.Parts.{totalIn, segmentIn, lengthIn, keyIn, signatureIn, privateKeyIn, chainIn, treeIn}
 use Rattle.share_format.specs.Parts.{shareDataIn, partList, placesOf, shareLength, encode}
-use Rattle.share_format.specs.Rows.{codingOk, segmentOk, leastSizes, placedOk, chainOk, treeOk, blocksOk, contentRows}
-use Rattle.share_format.proofs.HeaderLaws.{offset-facts, offsets-fit, fits-64, within-64, narrow-facts}
-use Rattle.share_format.proofs.NodeLaws.{nodes-facts, nodes-true}
+use Rattle.share_numbers.specs.Coding.{codingOk, segmentOk}
+use Rattle.share_numbers.specs.Order.{leastSizes, placedOk}
+use Rattle.share_contents.specs.Contents.{chainOk, treeOk, blocksOk, contentRows}
+use Rattle.share_format.proofs.HeaderLaws.{offset-facts, offsets-fit, fits-64, within-64}
+use Rattle.share_storing.proofs.FieldLaws.{narrow-facts}
+use Rattle.share_contents.proofs.NodeLaws.{nodes-facts, nodes-true}
 use Rattle.share_format.proofs.PackedLaws.{EachLeast, packed-head, packed-facts, packed-order, packed-last}
-use Rattle.share_format.proofs.RowLaws.{coding-facts, coding-true, placed-rest, segment-some, segment-none}
+use Rattle.share_numbers.proofs.CodingLaws.{coding-facts, coding-true, segment-some, segment-none}
+use Rattle.share_numbers.proofs.OrderLaws.{placed-rest}
 use Rattle.share_writing.specs.Writing.{sizesOk, segmentFits, boundsFit, rowsOf, writeRows, writeOutcome}
 use Rattle.share_writing.specs.Writing.{writtenAnswer, spaceAfter}
 use Rattle.share_writing.specs.Claims.{SegmentRight, TreeRight, BlocksRight, Writable}

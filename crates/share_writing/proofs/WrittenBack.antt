@@ -17,20 +17,22 @@ use Rattle.octets.proofs.ListLaws.{both}
 use Rattle.octets.proofs.NumberLaws.{length-digits, number-digits, octets-digits, octets-one}
 use Rattle.octets.proofs.StringLaws.{octets-append, octets-join}
 use Rattle.share_format.specs.Bounds.{partOf, packed}
-use Rattle.share_format.specs.Claims.{ArgumentsFit, OctetShare}
-use Rattle.share_format.specs.Claims.{FitEach}
+use Rattle.share_format.specs.Claims.{ArgumentsFit, OctetShare, FitEach}
 use Rattle.share_format.specs.Header.{Edition, versionOf, version, editionOf, sequenceAt, rootAt, ivAt, requiredAt}
 use Rattle.share_format.specs.Header.{totalAt, segmentAt, lengthAt, hashSize, ivSize, numberSize, offsetSizes}
-use Rattle.share_format.specs.Header.{offsetsAt}
-use Rattle.share_format.specs.Header.{headerSize, sequence, root, iv, required, total, segmentSize, dataLength}
-use Rattle.share_format.specs.Header.{offsetsOf, boundsOf, toldOf, numberFields, offsetFields, offsetsFit}
+use Rattle.share_format.specs.Header.{offsetsAt, headerSize, sequence, root, iv, required, total, segmentSize}
+use Rattle.share_format.specs.Header.{dataLength, offsetsOf, boundsOf, toldOf, numberFields, offsetFields, offsetsFit}
 use Rattle.share_format.specs.Parts.{Share, sdmf, mdmf, editionIn, sequenceIn, rootIn, ivIn, requiredIn, totalIn}
 use Rattle.share_format.specs.Parts.{segmentIn, lengthIn, chainIn, treeIn, shareDataIn, chainPart, treePart}
 use Rattle.share_format.specs.Parts.{shareDataPart, partList, readBy, shareOf, placesOf, shareLength, encode}
-use Rattle.share_format.specs.Rows.{segmentOk, placedOk, ordered, headRows, laidRows, bodyRows, shareOutcome}
+use Rattle.share_numbers.specs.Coding.{segmentOk}
+use Rattle.share_numbers.specs.Order.{placedOk}
+use Rattle.share_judging.specs.Judging.{ordered, headRows, laidRows, bodyRows, shareOutcome}
 use Rattle.share_format.proofs.HeaderLaws.{length-numbers, length-offsets, numbers-back, octets-each}
 use Rattle.share_format.proofs.PackedLaws.{packed-part}
-use Rattle.share_format.proofs.RowLaws.{least-multiple, outcome-body, coding-true}
+use Rattle.share_format.proofs.MultipleLaws.{least-multiple}
+use Rattle.share_judging.proofs.JudgingLaws.{outcome-body}
+use Rattle.share_numbers.proofs.CodingLaws.{coding-true}
 use Rattle.share_writing.specs.Claims.{Writable}
 use Rattle.share_writing.specs.Writing.{segmentFits, boundsFit}
 use Rattle.share_writing.proofs.WritingLaws.{share-joined, places-end, written, Passed, passed}

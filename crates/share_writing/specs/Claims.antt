@@ -7,11 +7,11 @@ use lib.ListN.{length, take, drop}
 use Rattle.octets.specs.Facts.{Each, Distinct, Among, Fits64}
 use Rattle.share_format.specs.Claims.{FitEach}
 use Rattle.share_format.specs.Header.{hashSize, ivSize, offsetSizes, toldOf}
-use Rattle.share_format.specs.Nodes.{depth, power, chainEntrySize, nodesFrom}
+use Rattle.share_contents.specs.Nodes.{depth, power, chainEntrySize, nodesFrom}
 use Rattle.share_format.specs.Parts.{Share, sdmf, mdmf, leastMultiple, editionIn, sequenceIn, rootIn, ivIn, requiredIn}
 use Rattle.share_format.specs.Parts.{totalIn, segmentIn, keyIn, signatureIn, privateKeyIn, chainIn, placesOf}
 use Rattle.share_format.specs.Parts.{shareLength, encode}
-use Rattle.share_format.specs.Rows.{segments, treeSize, blocksSize, lastSequence}
+use Rattle.share_contents.specs.Contents.{segments, treeSize, blocksSize, lastSequence}
 use Rattle.share_writing.specs.Writing.{writtenAnswer, spaceAfter}
 
 -- The writers' numbers (S42).

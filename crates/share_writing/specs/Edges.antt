@@ -10,7 +10,7 @@ use Rattle.octets.specs.Numbers.{digits}
 use Rattle.octets.specs.Strings.{join}
 use Rattle.share_format.specs.Header.{hashSize, saltSize}
 use Rattle.share_format.specs.Parts.{Sdmf, Share, sdmf, leastMultiple, shareLength}
-use Rattle.share_format.specs.Rows.{codingOk}
+use Rattle.share_numbers.specs.Coding.{codingOk}
 use Rattle.share_writing.specs.Writing.{sdmfWith, mdmfWith, writtenAnswer, spaceAfter}
 
 -- A chain with these node numbers.

@@ -6,7 +6,7 @@ use mathlib.Core.List.{List}
 use lib.ListN.{length, getD}
 use Rattle.octets.specs.Rows.{firstRow}
 use Rattle.share_format.specs.Bounds.{packed}
-use Rattle.share_format.specs.Facts.{NarrowOffsets}
+use Rattle.share_storing.specs.Facts.{NarrowOffsets}
 use Rattle.share_format.specs.Header.{Edition, byEdition, hashSize, ivSize, headerSize}
 use Rattle.share_format.specs.Parts.{leastMultiple}
 use Rattle.share_writing.specs.Writing.{rowsOf}

@@ -13,7 +13,9 @@ use Rattle.share_format.specs.Bounds.{packed}
 use Rattle.share_format.specs.Header.{Edition, hashSize, ivSize, numberSize, headerSize, offsetsFit}
 use Rattle.share_format.specs.Parts.{Share, sdmf, mdmf, editionIn, sequenceIn, rootIn, ivIn, requiredIn, totalIn}
 use Rattle.share_format.specs.Parts.{segmentIn, lengthIn, chainIn, treeIn, shareDataIn, partList, shareLength, encode}
-use Rattle.share_format.specs.Rows.{codingOk, segmentOk, placedOk, contentRows}
+use Rattle.share_numbers.specs.Coding.{codingOk, segmentOk}
+use Rattle.share_numbers.specs.Order.{placedOk}
+use Rattle.share_contents.specs.Contents.{contentRows}
 use Rattle.share_writing.specs.declared.Written.{Written}
 
 -- The share that the arguments of the SDMF writer name (S40).

@@ -1,9 +1,12 @@
 // The share writers: from numbers and parts to a share's bytes in lent space.
 use octets::moves;
+use share_contents::contents;
 use share_format::header;
 use share_format::header::HASH_SIZE;
-use share_format::rows;
-use share_format::rows::Multiple;
+use share_numbers::coding;
+use share_numbers::coding::Multiple;
+use share_numbers::order;
+use share_storing::fields;
 ghost use mathlib.Core.Path.{_≡_};
 ghost use mathlib.Core.Bool.{true};
 ghost use mathlib.Core.List.{[], _∷_, _++_};
@@ -70,11 +73,11 @@ fn segment_of(mdmf: bool, given: u64, k: u64, data_length: u64) -> Multiple
 {
     if mdmf {
         return Multiple {
-            fits: rows::segment_ok(true, given, k, data_length),
+            fits: coding::segment_ok(true, given, k, data_length),
             value: given,
         };
     }
-    rows::least_multiple(k, data_length)
+    coding::least_multiple(k, data_length)
 }
 
 // Row 25.
@@ -82,10 +85,10 @@ fn bounds_fit(mdmf: bool, bounds: [u64; 8]) -> bool
     requires { ⌜ Each Fits64 bounds ⌝ }
     ensures { λ r. ⌜ r ≡ boundsFit mdmf bounds ⌝ }
 {
-    if !rows::placed_ok(mdmf, bounds) {
+    if !order::placed_ok(mdmf, bounds) {
         return false;
     }
-    header::offsets_fit(mdmf, bounds)
+    fields::offsets_fit(mdmf, bounds)
 }
 
 // What the rows say of a share: the number and, on 0, the segment size and the boundaries of the parts.
@@ -136,7 +139,7 @@ fn verdict_of(
     if !has_room(space, header as usize, &sizes) {
         return refused(7);
     }
-    if !rows::coding_ok(required, total) {
+    if !coding::coding_ok(required, total) {
         return refused(23);
     }
     let segment = segment_of(mdmf, given, required as u64, data_length);
@@ -148,7 +151,7 @@ fn verdict_of(
         return refused(25);
     }
     let value = segment.value;
-    let number = rows::content_outcome(
+    let number = contents::content_outcome(
         mdmf,
         sequence,
         required,
@@ -229,7 +232,7 @@ fn lay_out(
         ∷ now (fifth .entry) ∷ now (sixth .entry) ∷ now (seventh .entry) ∷ [])))
         (now (d .entry)) ⌝ }
 {
-    header::put_header(
+    fields::put_header(
         d,
         mdmf,
         sequence,

@@ -16,7 +16,9 @@ use Rattle.container.proofs.DataLaws.{lends, lent-number}
 use Rattle.share_format.specs.Bounds.{partOf}
 use Rattle.share_format.specs.Facts.{PartInside}
 use Rattle.share_format.specs.Header.{Edition, editionOf, headerSize, numbersFrom, offsetsOf, boundsOf}
-use Rattle.share_format.specs.Rows.{leastSizes, headRows, contentRows, laidRows, bodyRows, shareOutcome}
+use Rattle.share_numbers.specs.Order.{leastSizes}
+use Rattle.share_judging.specs.Judging.{headRows, laidRows, bodyRows, shareOutcome}
+use Rattle.share_contents.specs.Contents.{contentRows}
 use Rattle.shares.specs.Share.{checkedOf, checkedContainer, sharePart, partAt}
 use Rattle.shares.specs.Share.{containerPart, containerPartAt}
 use Rattle.shares.specs.Claims.{shareNumbers, containerNumbers, InTurn, Demand1Share, Demand1Container}
@@ -25,7 +27,8 @@ use Rattle.shares.proofs.ShareLaws.{bounds-moved, accepted-inside, cont
 use Rattle.shares.proofs.ShareLaws.{container-zero, container-none, container-shares}
 use Rattle.share_format.proofs.BoundLaws.{risen, part-length}
 use Rattle.share_format.proofs.PackedLaws.{partsBetween, between-join}
-use Rattle.share_format.proofs.RowLaws.{order-facts, placed-first, placed-order, placed-last, outcome-ordered}
+use Rattle.share_judging.proofs.JudgingLaws.{order-facts, outcome-ordered}
+use Rattle.share_numbers.proofs.OrderLaws.{placed-first, placed-order, placed-last}
 use Rattle.octets.specs.Lists.{anyOf}
 
 -- ---- the number is one of the rows'

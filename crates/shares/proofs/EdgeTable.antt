@@ -5,11 +5,13 @@ use Rattle.octets.specs.Numbers.{numberAfter, number, numberAt, digits}
 use Rattle.octets.specs.Rows.{firstRow}
 use Rattle.share_format.specs.Bounds.{inOrder, partOf}
 use Rattle.share_format.specs.Header.{editionOf, numbersFrom, offsetsOf, boundsOf}
-use Rattle.share_format.specs.Nodes.{depthFrom, depth, power, nodesFrom, nodesOk}
+use Rattle.share_contents.specs.Nodes.{depthFrom, depth, power, nodesFrom, nodesOk}
 use Rattle.share_format.specs.Parts.{leastMultiple}
-use Rattle.share_format.specs.Rows.{codingOk, segmentOk, placedOk, ordered, chainOk, roundedUp, segments, treeSize}
-use Rattle.share_format.specs.Rows.{treeOk}
-use Rattle.share_format.specs.Rows.{blocksSize, blocksOk, contentRows, headRows, laidRows, bodyRows, shareOutcome}
+use Rattle.share_numbers.specs.Coding.{codingOk, segmentOk}
+use Rattle.share_numbers.specs.Order.{placedOk}
+use Rattle.share_judging.specs.Judging.{ordered, headRows, laidRows, bodyRows, shareOutcome}
+use Rattle.share_contents.specs.Contents.{chainOk, roundedUp, segments, treeSize, treeOk, blocksSize, blocksOk}
+use Rattle.share_contents.specs.Contents.{contentRows}
 use Rattle.shares.specs.Share.{boundsAt, checkedAt, checkedOf}
 use Rattle.shares.specs.Edges.{CheckEdgesHold}
 

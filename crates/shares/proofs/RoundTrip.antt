@@ -6,7 +6,7 @@ use native.Mathlib.Omega.{arith}
 use lib.ListN.{length, drop}
 use Rattle.octets.specs.Facts.{Octets}
 use Rattle.share_format.specs.Parts.{shareOf, encode}
-use Rattle.share_format.specs.Rows.{shareOutcome}
+use Rattle.share_judging.specs.Judging.{shareOutcome}
 use Rattle.share_writing.specs.Writing.{writeOutcome, writtenAnswer, spaceAfter}
 use Rattle.share_writing.proofs.Claims.{done-space, done-length, done-share}
 use Rattle.share_writing.proofs.ReadAgain.{read-again, octets-share}

@@ -12,10 +12,9 @@ use Rattle.container.specs.Data.{lentOf, dataLent}
 use Rattle.container.proofs.DataLaws.{lends, lent-bytes, none-lent}
 use Rattle.share_format.specs.Bounds.{partOf}
 use Rattle.share_format.specs.Facts.{PartsInside}
-use Rattle.share_format.specs.Header.{Edition, byEdition, versionOf, editionOf, numbersFrom, offsetsOf}
-use Rattle.share_format.specs.Header.{boundsOf}
-use Rattle.share_format.specs.Rows.{shareOutcome}
-use Rattle.share_format.proofs.RowLaws.{bounds-inside, outcome-ordered}
+use Rattle.share_format.specs.Header.{Edition, byEdition, versionOf, editionOf, numbersFrom, offsetsOf, boundsOf}
+use Rattle.share_judging.specs.Judging.{shareOutcome}
+use Rattle.share_judging.proofs.JudgingLaws.{bounds-inside, outcome-ordered}
 use Rattle.shares.specs.Share.{checkedOf, checkedContainer, refused, boundsAt, checkedAt}
 use Rattle.container.specs.declared.data.Lent.{Lent}
 use Rattle.shares.specs.declared.share.Checked.{Checked}

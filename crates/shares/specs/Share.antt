@@ -9,7 +9,7 @@ use Rattle.container.specs.Data.{lentOf, dataLent}
 use Rattle.share_format.specs.Bounds.{partOf}
 use Rattle.share_format.specs.Header.{Edition, versionOf, editionOf, boundsOf}
 use Rattle.share_format.specs.Parts.{Share, readBy}
-use Rattle.share_format.specs.Rows.{shareOutcome}
+use Rattle.share_judging.specs.Judging.{shareOutcome}
 use Rattle.shares.specs.declared.share.Checked.{Checked}
 
 -- The boundaries of the seven parts, counted from the start of a slice in which the share begins at byte `base`.

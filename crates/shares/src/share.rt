@@ -2,7 +2,7 @@
 use share_format::bounds;
 use share_format::header;
 use share_format::parts;
-use share_format::rows;
+use share_judging::judging;
 ghost use mathlib.Core.Path.{_≡_};
 ghost use mathlib.Core.Bool.{true};
 ghost use Prim.Native.Nat.{_+_, _≤_, _<_};
@@ -63,7 +63,7 @@ fn checked_at(s: &[u8], base: u64) -> Checked
     ensures { λ r. ⌜ r ≡ checkedAt base (now (s .entry)) ⌝ }
 {
     let mdmf = header::is_mdmf(s);
-    let number = rows::outcome(s);
+    let number = judging::outcome(s);
     if number != 0 {
         return refused(mdmf, number);
     }

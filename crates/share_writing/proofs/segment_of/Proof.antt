@@ -6,7 +6,7 @@ use Rattle.octets.proofs.ListLaws.{and-true}
 use Rattle.octets.specs.Numbers.{fits}
 use Rattle.share_format.specs.Header.{numberSize}
 use Rattle.share_format.specs.Parts.{leastMultiple}
-use Rattle.share_format.specs.Rows.{segmentOk}
+use Rattle.share_numbers.specs.Coding.{segmentOk}
 use Rattle.share_format.proofs.HeaderLaws.{fits-64}
 use Rattle.share_writing.specs.Writing.{segmentFits}
 use borrow.Author.Needs.{needs}

@@ -6,14 +6,12 @@ use native.Mathlib.Omega.{arith}
 use borrow.Author.Tests.{eq-eqb, ne-eqb, leb-true, leb-false, not-true, not-false}
 use Rattle.octets.specs.Lists.{sum}
 use Rattle.share_format.specs.Bounds.{packed}
-use Rattle.share_format.specs.Header.{headerSize}
-use Rattle.share_format.specs.Rows.{codingOk}
+use Rattle.share_format.specs.Header.{headerSize, numberSize}
+use Rattle.share_numbers.specs.Coding.{codingOk, segmentOk}
 use Rattle.share_format.proofs.PackedLaws.{packed-fits}
 use Rattle.octets.proofs.ListLaws.{both}
-use Rattle.share_format.specs.Rows.{segmentOk}
-use Rattle.share_format.specs.Header.{numberSize}
 use Rattle.octets.specs.Numbers.{fits}
-use Rattle.share_format.proofs.RowLaws.{coding-facts}
+use Rattle.share_numbers.proofs.CodingLaws.{coding-facts}
 use Rattle.share_writing.specs.Facts.{segmentFor}
 use Rattle.share_writing.specs.Writing.{sizesOk, segmentFits}
 use Rattle.share_writing.proofs.WritingLaws.{rows-3, rows-7, rows-23, rows-24, rows-25, rows-rest}

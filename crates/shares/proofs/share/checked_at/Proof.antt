@@ -1,6 +1,6 @@
 -- A number other than 0 refuses; on 0 the offsets are in order, so the boundaries may be formed.
 use mathlib.Core.Path.{sym, ap, _∙_}
-use Rattle.share_format.proofs.RowLaws.{head-facts, outcome-ordered}
+use Rattle.share_judging.proofs.JudgingLaws.{head-facts, outcome-ordered}
 use Rattle.share_format.specs.Header.{versionOf}
 use Rattle.shares.proofs.ShareLaws.{checked-refused, checked-zero, accepted-inside}
 use borrow.Author.Needs.{needs}

@@ -1,0 +1,3 @@
+// The rows that look into parts, 26 to 29: of a share, or of what shall go into one.
+pub mod contents;
+mod nodes;

@@ -1,0 +1,3 @@
+-- Laws of rows 23 to 25, for the proofs of this crate and of those above.
+pub mod CodingLaws
+pub mod OrderLaws

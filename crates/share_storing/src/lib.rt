@@ -1,0 +1,2 @@
+// A share's header stored, SDMF or MDMF.
+pub mod fields;
