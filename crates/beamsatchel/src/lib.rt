@@ -5,9 +5,9 @@ ghost use Rattle.container.specs.Looking.{readOf};
 ghost use Rattle.listed_rules.specs.Outcomes.{answeredBeside, containerBeside, listAfter, replyBeside};
 ghost use Rattle.shares.specs.Share.{checkedOf, checkedContainer};
 ghost use lib.ListN.{length};
-ghost use Rattle.share_writing.specs.Writing.{sdmfWith, mdmfWith, writtenAnswer, spaceAfter};
+ghost use Rattle.share_rules.specs.Writing.{sdmfWith, mdmfWith, writtenAnswer, spaceAfter};
 use rules::Answer;
-use share_writing::Written;
+use share_rules::Written;
 use shares::share::Checked;
 
 #[no_mangle]

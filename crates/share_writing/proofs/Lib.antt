@@ -1,7 +1,4 @@
--- Laws of the share writers: room for the parts, their rows, what they write and how that is read; then their claims.
+-- Laws for the proofs of the share writers: room for the parts, their sizes, the verdict.
 pub mod RoomLaws
-pub mod WritingLaws
-pub mod WrittenBack
-pub mod ReadAgain
-pub mod Claims
-pub mod EdgeTable
+pub mod SizeLaws
+pub mod VerdictLaws

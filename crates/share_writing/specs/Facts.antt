@@ -9,7 +9,7 @@ use Rattle.share_format.specs.Bounds.{packed}
 use Rattle.share_storing.specs.Facts.{NarrowOffsets}
 use Rattle.share_format.specs.Header.{Edition, byEdition, hashSize, ivSize, headerSize}
 use Rattle.share_format.specs.Parts.{leastMultiple}
-use Rattle.share_writing.specs.Writing.{rowsOf}
+use Rattle.share_rules.specs.Writing.{rowsOf}
 use Rattle.share_writing.specs.declared.Verdict.{Verdict}
 
 -- The segment size: MDMF's is given, SDMF's follows.

@@ -1,5 +1,2 @@
--- The share writers (docs/RULES.md, S40, S42 to S44, S53, S58, D1, D8, P21 to P29, P45 to P54).
-pub mod Writing
+-- What the share writers' functions hand to each other.
 pub mod Facts
-pub mod Claims
-pub mod Edges

@@ -6,6 +6,7 @@ use share_format::header::HASH_SIZE;
 use share_numbers::coding;
 use share_numbers::coding::Multiple;
 use share_numbers::order;
+use share_rules::Written;
 use share_storing::fields;
 ghost use mathlib.Core.Path.{_≡_};
 ghost use mathlib.Core.Bool.{true};
@@ -19,16 +20,8 @@ ghost use Rattle.octets.specs.Moves.{put};
 ghost use Rattle.octets.specs.Strings.{join};
 ghost use Rattle.share_format.specs.Bounds.{packed};
 ghost use Rattle.share_format.specs.Header.{headerSize, numberFields, offsetFields};
-ghost use Rattle.share_writing.specs.Writing.{sdmfWith, mdmfWith, segmentFits, boundsFit, writtenAnswer};
-ghost use Rattle.share_writing.specs.Writing.{spaceAfter};
+ghost use Rattle.share_rules.specs.Writing.{sdmfWith, mdmfWith, segmentFits, boundsFit, writtenAnswer, spaceAfter};
 ghost use Rattle.share_writing.specs.Facts.{segmentFor, Packed, HeaderFits, Judges};
-
-// The outcome's number, and on 0 the share's length.
-#[repr(C)]
-pub struct Written {
-    pub number: u32,
-    pub length: u64,
-}
 
 // Row 7. The parts are taken off the space one by one, so that no sum of their sizes is formed.
 fn has_room(space: usize, header: usize, sizes: &[usize]) -> bool

@@ -7,11 +7,11 @@ use lib.ListN.{length, drop}
 use Rattle.octets.specs.Facts.{Octets}
 use Rattle.share_format.specs.Parts.{shareOf, encode}
 use Rattle.share_judging.specs.Judging.{shareOutcome}
-use Rattle.share_writing.specs.Writing.{writeOutcome, writtenAnswer, spaceAfter}
-use Rattle.share_writing.proofs.Claims.{done-space, done-length, done-share}
-use Rattle.share_writing.proofs.ReadAgain.{read-again, octets-share}
-use Rattle.share_writing.proofs.WritingLaws.{writable, written}
-use Rattle.share_writing.proofs.WrittenBack.{written-back, octets-encode}
+use Rattle.share_rules.specs.Writing.{writeOutcome, writtenAnswer, spaceAfter}
+use Rattle.share_rules.proofs.Claims.{done-space, done-length, done-share}
+use Rattle.share_rules.proofs.ReadAgain.{read-again, octets-share}
+use Rattle.share_rules.proofs.WritingLaws.{writable, written}
+use Rattle.share_rules.proofs.WrittenBack.{written-back, octets-encode}
 use Rattle.shares.specs.Claims.{ShareRoundTrip}
 use Rattle.shares.specs.Share.{checkedOf, handedBack}
 use Rattle.shares.proofs.ShareLaws.{checked-number, checked-bounds}

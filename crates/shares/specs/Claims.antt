@@ -12,7 +12,7 @@ use Rattle.shares.specs.Share.{handedBack}
 use Rattle.octets.specs.Facts.{Among, Octets}
 use Rattle.share_format.specs.Claims.{ArgumentsFit, OctetShare}
 use Rattle.share_format.specs.Parts.{Share, encode}
-use Rattle.share_writing.specs.Writing.{writtenAnswer, spaceAfter}
+use Rattle.share_rules.specs.Writing.{writtenAnswer, spaceAfter}
 
 -- The numbers of the table for a share, and for a container that holds one.
 abbrev pub shareNumbers : List ℕ

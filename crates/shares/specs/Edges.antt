@@ -7,7 +7,7 @@ use lib.ListN.{replicate, take}
 use Rattle.octets.specs.Moves.{put}
 use Rattle.octets.specs.Numbers.{digits}
 use Rattle.share_format.specs.Header.{farOffsetSize, offsetsAt}
-use Rattle.share_writing.specs.Edges.{bytes, mdmfBytes}
+use Rattle.share_rules.specs.Edges.{bytes, mdmfBytes}
 use Rattle.shares.specs.Share.{checkedOf}
 use mathlib.Core.Bool.{true}
 

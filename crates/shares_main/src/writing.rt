@@ -6,7 +6,7 @@ use crate::show;
 use crate::store;
 use octets::numbers;
 use octets::strings;
-use share_writing::Written;
+use share_rules::Written;
 use shares::share;
 
 const LARGEST: u64 = 18446744073709551615;

@@ -1,7 +1,7 @@
 -- The order, then the fields.
 use mathlib.Core.Path.{sym, _∙_}
 use borrow.Author.Tests.{not-true, not-false}
-use Rattle.share_writing.specs.Writing.{boundsFit}
+use Rattle.share_rules.specs.Writing.{boundsFit}
 use borrow.Author.Needs.{needs}
 use Rattle.share_writing.proofs.bounds_fit.Statement.{statement}
 use Rattle.share_writing.proofs.bounds_fit.Tie as tie

@@ -1,7 +1,7 @@
 -- Seven sums, none beyond the last.
 use native.Mathlib.Omega.{arith}
 use Rattle.share_format.specs.Bounds.{packed}
-use Rattle.share_writing.proofs.WritingLaws.{sum-seven, packed-seven}
+use Rattle.share_writing.proofs.SizeLaws.{sum-seven, packed-seven}
 use borrow.Author.Needs.{needs}
 use Rattle.share_writing.proofs.places.Statement.{statement}
 use Rattle.share_writing.proofs.places.Tie as tie

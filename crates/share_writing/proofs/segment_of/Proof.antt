@@ -8,7 +8,7 @@ use Rattle.share_format.specs.Header.{numberSize}
 use Rattle.share_format.specs.Parts.{leastMultiple}
 use Rattle.share_numbers.specs.Coding.{segmentOk}
 use Rattle.share_format.proofs.HeaderLaws.{fits-64}
-use Rattle.share_writing.specs.Writing.{segmentFits}
+use Rattle.share_rules.specs.Writing.{segmentFits}
 use borrow.Author.Needs.{needs}
 use Rattle.share_writing.proofs.segment_of.Statement.{statement}
 use Rattle.share_writing.proofs.segment_of.Tie as tie

@@ -13,9 +13,9 @@ use Rattle.octets.proofs.ListLaws.{both}
 use Rattle.octets.specs.Numbers.{fits}
 use Rattle.share_numbers.proofs.CodingLaws.{coding-facts}
 use Rattle.share_writing.specs.Facts.{segmentFor}
-use Rattle.share_writing.specs.Writing.{sizesOk, segmentFits}
-use Rattle.share_writing.proofs.WritingLaws.{rows-3, rows-7, rows-23, rows-24, rows-25, rows-rest}
-use Rattle.share_writing.proofs.WritingLaws.{judges-refused}
+use Rattle.share_rules.specs.Writing.{sizesOk, segmentFits}
+use Rattle.share_rules.proofs.WritingLaws.{rows-3, rows-7, rows-23, rows-24, rows-25, rows-rest}
+use Rattle.share_writing.proofs.VerdictLaws.{judges-refused}
 use borrow.Author.Needs.{needs}
 use Rattle.share_writing.proofs.verdict_of.Statement.{statement}
 use Rattle.share_writing.proofs.verdict_of.Tie as tie

@@ -1,9 +1,10 @@
 -- A number other than 0 leaves the space; on 0 nothing refuses.
 use mathlib.Core.Path.{sym, _∙_}
 use Rattle.share_format.specs.Parts.{Share, partList, placesOf}
-use Rattle.share_writing.specs.Writing.{mdmfWith, writeRows, writeOutcome}
-use Rattle.share_writing.proofs.WritingLaws.{places-end, places-seven, answer-refused, answer-done, layable}
-use Rattle.share_writing.proofs.WritingLaws.{encoded}
+use Rattle.share_rules.specs.Writing.{mdmfWith, writeRows, writeOutcome}
+use Rattle.share_rules.proofs.WritingLaws.{places-end, answer-refused, answer-done, encoded}
+use Rattle.share_writing.proofs.SizeLaws.{places-seven}
+use Rattle.share_writing.proofs.VerdictLaws.{layable}
 use borrow.Author.Needs.{needs}
 use Rattle.share_writing.proofs.write_mdmf.Statement.{statement}
 use Rattle.share_writing.proofs.write_mdmf.Tie as tie

@@ -33,9 +33,9 @@ use Rattle.share_format.proofs.PackedLaws.{packed-part}
 use Rattle.share_format.proofs.MultipleLaws.{least-multiple}
 use Rattle.share_judging.proofs.JudgingLaws.{outcome-body}
 use Rattle.share_numbers.proofs.CodingLaws.{coding-true}
-use Rattle.share_writing.specs.Claims.{Writable}
-use Rattle.share_writing.specs.Writing.{segmentFits, boundsFit}
-use Rattle.share_writing.proofs.WritingLaws.{share-joined, places-end, written, Passed, passed}
+use Rattle.share_rules.specs.Claims.{Writable}
+use Rattle.share_rules.specs.Writing.{segmentFits, boundsFit}
+use Rattle.share_rules.proofs.WritingLaws.{share-joined, places-end, written, Passed, passed}
 
 -- A field of one byte.
 byte-of : (c : List ℕ) (a v : ℕ) → take 1 (drop a c) ≡ v ∷ [] → getD c a 0 ≡ v

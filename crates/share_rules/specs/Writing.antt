@@ -16,7 +16,7 @@ use Rattle.share_format.specs.Parts.{segmentIn, lengthIn, chainIn, treeIn, shar
 use Rattle.share_numbers.specs.Coding.{codingOk, segmentOk}
 use Rattle.share_numbers.specs.Order.{placedOk}
 use Rattle.share_contents.specs.Contents.{contentRows}
-use Rattle.share_writing.specs.declared.Written.{Written}
+use Rattle.share_rules.specs.declared.Written.{Written}
 
 -- The share that the arguments of the SDMF writer name (S40).
 abbrev pub sdmfWith :

@@ -36,10 +36,10 @@ use Rattle.share_format.proofs.HeaderLaws.{fits-64, offsets-fit, sizes-sum, num
 use Rattle.share_format.proofs.PackedLaws.{partsBetween, between-packed, between-join}
 use Rattle.share_judging.proofs.JudgingLaws.{order-facts}
 use Rattle.share_numbers.proofs.OrderLaws.{placed-tail, placed-order, placed-last}
-use Rattle.share_writing.specs.Claims.{Writable}
-use Rattle.share_writing.specs.Writing.{sizesOk, segmentFits, boundsFit}
-use Rattle.share_writing.proofs.WritingLaws.{share-joined, done, writable}
-use Rattle.share_writing.proofs.WrittenBack.{numbers}
+use Rattle.share_rules.specs.Claims.{Writable}
+use Rattle.share_rules.specs.Writing.{sizesOk, segmentFits, boundsFit}
+use Rattle.share_rules.proofs.WritingLaws.{share-joined, done, writable}
+use Rattle.share_rules.proofs.WrittenBack.{numbers}
 
 -- ---- what holds where no row applies
 record Accepted (e : Edition) (s : List ℕ) : Type 0 where

@@ -14,10 +14,10 @@ use Rattle.octets.proofs.MoveLaws.{put-length, put-beyond}
 use Rattle.octets.proofs.RowLaws.{first-among}
 use Rattle.share_format.specs.Parts.{Share, shareLength, encode}
 use Rattle.share_contents.specs.Contents.{contentRows}
-use Rattle.share_writing.specs.Writing.{rowsOf, writeRows, writeOutcome, writtenAnswer, spaceAfter}
-use Rattle.share_writing.specs.Claims.{writerNumbers, Demand1Writer, WritesExactly}
-use Rattle.share_writing.proofs.WritingLaws.{writable, written}
-use Rattle.share_writing.proofs.WrittenBack.{length-encode}
+use Rattle.share_rules.specs.Writing.{rowsOf, writeRows, writeOutcome, writtenAnswer, spaceAfter}
+use Rattle.share_rules.specs.Claims.{writerNumbers, Demand1Writer, WritesExactly}
+use Rattle.share_rules.proofs.WritingLaws.{writable, written}
+use Rattle.share_rules.proofs.WrittenBack.{length-encode}
 
 number-among : (x : Share) (n : ℕ) → Among (writeOutcome x n) writerNumbers
 unfolding writeOutcome writeRows rowsOf contentRows

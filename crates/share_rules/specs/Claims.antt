@@ -12,7 +12,7 @@ use Rattle.share_format.specs.Parts.{Share, sdmf, mdmf, leastMultiple, editionI
 use Rattle.share_format.specs.Parts.{totalIn, segmentIn, keyIn, signatureIn, privateKeyIn, chainIn, placesOf}
 use Rattle.share_format.specs.Parts.{shareLength, encode}
 use Rattle.share_contents.specs.Contents.{segments, treeSize, blocksSize, lastSequence}
-use Rattle.share_writing.specs.Writing.{writtenAnswer, spaceAfter}
+use Rattle.share_rules.specs.Writing.{writtenAnswer, spaceAfter}
 
 -- The writers' numbers (S42).
 abbrev pub writerNumbers : List ℕ

@@ -11,7 +11,7 @@ use Rattle.octets.specs.Strings.{join}
 use Rattle.share_format.specs.Header.{hashSize, saltSize}
 use Rattle.share_format.specs.Parts.{Sdmf, Share, sdmf, leastMultiple, shareLength}
 use Rattle.share_numbers.specs.Coding.{codingOk}
-use Rattle.share_writing.specs.Writing.{sdmfWith, mdmfWith, writtenAnswer, spaceAfter}
+use Rattle.share_rules.specs.Writing.{sdmfWith, mdmfWith, writtenAnswer, spaceAfter}
 
 -- A chain with these node numbers.
 abbrev pub chainWith : List ℕ → List ℕ

@@ -24,17 +24,14 @@ use Rattle.share_numbers.specs.Coding.{codingOk, segmentOk}
 use Rattle.share_numbers.specs.Order.{leastSizes, placedOk}
 use Rattle.share_contents.specs.Contents.{chainOk, treeOk, blocksOk, contentRows}
 use Rattle.share_format.proofs.HeaderLaws.{offset-facts, offsets-fit, fits-64, within-64}
-use Rattle.share_storing.proofs.FieldLaws.{narrow-facts}
 use Rattle.share_contents.proofs.NodeLaws.{nodes-facts, nodes-true}
 use Rattle.share_format.proofs.PackedLaws.{EachLeast, packed-head, packed-facts, packed-order, packed-last}
 use Rattle.share_numbers.proofs.CodingLaws.{coding-facts, coding-true, segment-some, segment-none}
 use Rattle.share_numbers.proofs.OrderLaws.{placed-rest}
-use Rattle.share_writing.specs.Writing.{sizesOk, segmentFits, boundsFit, rowsOf, writeRows, writeOutcome}
-use Rattle.share_writing.specs.Writing.{writtenAnswer, spaceAfter}
-use Rattle.share_writing.specs.Claims.{SegmentRight, TreeRight, BlocksRight, Writable}
-use Rattle.share_writing.specs.Facts.{segmentFor, Packed, HeaderFits, Judges}
-use Rattle.share_writing.specs.declared.Verdict.{Verdict}
-use Rattle.share_writing.specs.declared.Written.{Written}
+use Rattle.share_rules.specs.Writing.{sizesOk, segmentFits, boundsFit, rowsOf, writeRows, writeOutcome}
+use Rattle.share_rules.specs.Writing.{writtenAnswer, spaceAfter}
+use Rattle.share_rules.specs.Claims.{SegmentRight, TreeRight, BlocksRight, Writable}
+use Rattle.share_rules.specs.declared.Written.{Written}
 
 -- ---- the number, row by row
 module _ (e : Edition) (sequence : ℕ) (root iv : List ℕ) (k n segment m : ℕ) (sizes chain tree shareData : List ℕ)
@@ -87,20 +84,6 @@ unfolding placesOf shareLength
 places-end x =
     ap (λ (i : ℕ). getD (packed (headerSize (editionIn x)) (map length (partList x))) i 0) (sym (seven-parts x))
     ∙ packed-last (headerSize (editionIn x)) (map length (partList x))
-
-pub places-seven : (h a b c d e f g : ℕ) → Packed h (packed h (a ∷ b ∷ c ∷ d ∷ e ∷ f ∷ g ∷ [])) a b c d e f g
-unfolding packed
-places-seven h a b c d e f g =
-    record {
-      first = refl;
-      second = refl;
-      third = refl;
-      fourth = refl;
-      fifth = refl;
-      sixth = refl;
-      seventh = refl;
-      end = refl;
-    }
 
 -- ---- the conditions
 placed-packed : (e : Edition) (ns : List ℕ) → placedOk e (packed (headerSize e) ns) ≡ true → EachLeast (leastSizes e) ns
@@ -293,57 +276,7 @@ pub answer-done : (x : Share) (d d' : List ℕ) (n : ℕ) → writeOutcome x (le
 unfolding writtenAnswer spaceAfter
 answer-done x d d' n z l e = (rw (z, l), rw (z, e))
 
--- ---- seven sizes
-pub seven-listed : (l : List ℕ) → length l ≡ 7
-    → l ≡ getD l 0 0 ∷ getD l 1 0 ∷ getD l 2 0 ∷ getD l 3 0 ∷ getD l 4 0 ∷ getD l 5 0 ∷ getD l 6 0 ∷ []
-seven-listed (a ∷ b ∷ c ∷ d ∷ e ∷ f ∷ g ∷ []) h = refl
-seven-listed [] h = absurd (omega arith)
-seven-listed (a ∷ []) h = absurd (omega arith)
-seven-listed (a ∷ b ∷ []) h = absurd (omega arith)
-seven-listed (a ∷ b ∷ c ∷ []) h = absurd (omega arith)
-seven-listed (a ∷ b ∷ c ∷ d ∷ []) h = absurd (omega arith)
-seven-listed (a ∷ b ∷ c ∷ d ∷ e ∷ []) h = absurd (omega arith)
-seven-listed (a ∷ b ∷ c ∷ d ∷ e ∷ f ∷ []) h = absurd (omega arith)
-seven-listed (a ∷ b ∷ c ∷ d ∷ e ∷ f ∷ g ∷ i ∷ l) h = absurd (omega arith)
-
-pub sum-seven : (l : List ℕ) → length l ≡ 7
-    → sum l
-    ≡ getD l 0 0
-    + (getD l 1 0 + (getD l 2 0 + (getD l 3 0 + (getD l 4 0 + (getD l 5 0 + (getD l 6 0 + 0))))))
-unfolding sum
-sum-seven l h = ap sum (seven-listed l h)
-
-pub packed-seven : (a : ℕ) (l : List ℕ) → length l ≡ 7
-    → packed a (getD l 0 0 ∷ getD l 1 0 ∷ getD l 2 0 ∷ getD l 3 0 ∷ getD l 4 0 ∷ getD l 5 0 ∷ getD l 6 0 ∷ [])
-    ≡ packed a l
-packed-seven a l h = ap (packed a) (sym (seven-listed l h))
-
--- ---- the verdict
-module _ (e : Edition) (sequence : ℕ) (root iv : List ℕ) (k n given m : ℕ) (sizes chain tree shareData : List ℕ)
-    (space : ℕ) (v : Verdict) where
-  pub judges-refused : (r : ℕ) → v .number ≡ r
-      → firstRow (rowsOf e sequence root iv k n (segmentFor e given k m) m sizes chain tree shareData space) ≡ r → 0 < r
-      → Judges e sequence root iv k n given m sizes chain tree shareData space v
-  judges-refused r h o p =
-      record { number = h ∙ sym o; segment = λ z. absurd (omega arith); bounds = λ z. absurd (omega arith) }
-
 -- ---- what is written
--- On 0 a header and the parts have room, and what they are asked for.
-pub layable : (x : Share) (n : ℕ) (bs : List ℕ) → writeOutcome x n ≡ 0 → bs ≡ placesOf x
-    → HeaderFits (editionIn x) (rootIn x) (ivIn x) bs n × (getD bs 7 0 ≤ n)
-unfolding shareLength
-layable x n bs z b =
-    let w = writable x n z in
-    let fit = offsets-fit (editionIn x) (placesOf x) (w .offsets) in (
-      record {
-        root-size = w .root-size;
-        iv-size = w .iv-size;
-        room = omega (arith, w .room);
-        narrow = narrow-facts (editionIn x) bs (rw b fit);
-      },
-      rw b (omega (arith, places-end x, w .room)),
-    )
-
 -- Numbers, offsets and parts are the share.
 pub encoded : (x : Share) (d bs : List ℕ) (segment : ℕ) → segment ≡ segmentIn x → bs ≡ placesOf x
     → put 0

@@ -24,10 +24,10 @@ use Rattle.share_contents.specs.Contents.{chainOk, roundedUp, segments, treeSiz
 use Rattle.share_contents.specs.Contents.{blocksSize, blocksOk, contentRows}
 use Rattle.share_format.proofs.HeaderLaws.{fits-64, offset-facts}
 use Rattle.share_contents.proofs.ContentLaws.{tree-few}
-use Rattle.share_writing.specs.Writing.{sizesOk, segmentFits, boundsFit, rowsOf, writeRows, writeOutcome}
-use Rattle.share_writing.specs.Writing.{writtenAnswer, spaceAfter}
-use Rattle.share_writing.specs.Edges.{segmented, into, resultOf, refused, WriterEdgesHold}
-use Rattle.share_writing.proofs.WritingLaws.{rows-25}
+use Rattle.share_rules.specs.Writing.{sizesOk, segmentFits, boundsFit, rowsOf, writeRows, writeOutcome}
+use Rattle.share_rules.specs.Writing.{writtenAnswer, spaceAfter}
+use Rattle.share_rules.specs.Edges.{segmented, into, resultOf, refused, WriterEdgesHold}
+use Rattle.share_rules.proofs.WritingLaws.{rows-25}
 
 -- The signature stands behind the key.
 narrow : (x : Sdmf) → 4294967189 ≤ length (x .key)
