@@ -21,8 +21,8 @@ fn run_end(a: &[u8], b: &[u8], at: usize, changed: bool) -> usize
     i
 }
 
-// A run of changed bytes, by its first and its last.
-fn run(from: usize, last: usize) {
+// A run of positions, by its first and its last.
+pub(crate) fn run(from: usize, last: usize) {
     text(STDOUT_FILENO, b" ");
     number(STDOUT_FILENO, from as u64);
     if from < last {

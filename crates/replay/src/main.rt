@@ -1,6 +1,7 @@
 // Replays files of requests, one container after the other, and prints what each request was answered. docs/REPLAY.md
 // has the layout of a file, and what is printed where.
 mod changing;
+mod listing;
 mod printing;
 mod reporting;
 mod running;

@@ -5,6 +5,7 @@ use crate::reporting::Why;
 use crate::showing;
 use crate::showing::clip;
 use crate::showing::clip_both;
+use lists::list::LIST_LENGTH;
 use replaying::commands;
 use replaying::commands::Argument;
 use replaying::commands::Command;
@@ -24,6 +25,9 @@ const BUFFER_SIZE: usize = REQUEST_LIMIT + 4;
 
 // The longest reply space that a line can name.
 const REPLY_SIZE: usize = 8192;
+
+// The highest outcome.
+const LAST_OUTCOME: u32 = 16;
 
 // What lines before this one have set: the lengths of the container, the request, the node id and the enabler, which
 // stand at the front of their buffers; whether this container has answered, and its last answer; the requests of
@@ -60,17 +64,18 @@ fn with_answer(st: State, number: u32) -> State {
 }
 
 // Shows the container before, if there is one, and leaves a line empty.
-fn close(st: State, c: &[u8]) {
+fn close(st: State, c: &[u8], l: &[u8]) {
     let open = st.open;
     if open {
         let n = clip(st.length, c);
-        showing::container(&c[..n]);
+        showing::container(&c[..n], l);
         showing::share(&c[..n]);
         showing::write(b"\n");
     }
 }
 
-fn begin(s: &[u8], at: usize, st: State, c: &mut [u8]) -> Step
+// A container of zeros, and beside it the list of no rows.
+fn begin(s: &[u8], at: usize, st: State, c: &mut [u8], l: &mut [u8]) -> Step
     requires { ⌜ at ≤ length (now s) ⌝ }
 {
     if st.request != 0 {
@@ -79,8 +84,9 @@ fn begin(s: &[u8], at: usize, st: State, c: &mut [u8]) -> Step
     match commands::only_number(s, at, BUFFER_SIZE as u32) {
         Argument::Bad(f) => Step::Stop(Why::Layout(f)),
         Argument::Number(n) => {
-            close(st, c);
+            close(st, c, l);
             octets::moves::clear(c);
+            octets::moves::clear(l);
             let mut next = st;
             next.open = true;
             next.length = n as usize;
@@ -100,6 +106,20 @@ fn load(s: &[u8], at: usize, st: State, c: &mut [u8]) -> Step
     }
     let n = clip(st.length, c);
     match items::put_items(s, at, &mut c[..n], 0) {
+        Put::Bad(f) => Step::Stop(Why::Layout(f)),
+        Put::Done(_) => Step::On(st),
+    }
+}
+
+// Bytes at the front of the list, as another hand might have left them.
+fn list(s: &[u8], at: usize, st: State, l: &mut [u8]) -> Step
+    requires { ⌜ at ≤ length (now s) ⌝ }
+{
+    let open = st.open;
+    if !open {
+        return Step::Stop(Why::NoBuffer);
+    }
+    match items::put_items(s, at, l, 0) {
         Put::Bad(f) => Step::Stop(Why::Layout(f)),
         Put::Done(_) => Step::On(st),
     }
@@ -163,34 +183,65 @@ fn bytes(s: &[u8], at: usize, st: State, q: &mut [u8]) -> Step
     }
 }
 
-fn run_request(st: State, c: &mut [u8], q: &[u8], r: &mut [u8]) -> u32 {
+// The pieces of a reply are those before any write, so they are shown beside the list as it was before.
+fn run_beside(
+    st: State,
+    c: &mut [u8],
+    l: &mut [u8],
+    q: &[u8],
+    r: &mut [u8],
+    before: &mut [u8],
+) -> u32 {
     let n = clip(st.length, c);
-    let x = container::requesting::apply(&mut c[..n], q, r);
-    showing::applied(q, x, r);
+    let k = clip_both(LIST_LENGTH, l, before);
+    octets::moves::copy(&mut before[..k], &l[..k]);
+    let size = container::data::data_of(&c[..n]).len();
+    let x = listed_slot::requesting::apply(&mut c[..n], l, q, r);
+    showing::applied(q, x, r, size, before);
     x.number
 }
 
+fn run_request(st: State, c: &mut [u8], l: &mut [u8], q: &[u8], r: &mut [u8]) -> u32 {
+    let mut before = [0u8; LIST_LENGTH];
+    run_beside(st, c, l, q, r, &mut before)
+}
+
 // Shows what the request changed too.
-fn run_watched(st: State, c: &mut [u8], q: &[u8], r: &mut [u8], before: &mut [u8]) -> u32 {
+fn run_watched(
+    st: State,
+    c: &mut [u8],
+    l: &mut [u8],
+    q: &[u8],
+    r: &mut [u8],
+    before: &mut [u8],
+) -> u32 {
     let n = clip_both(st.length, c, before);
     octets::moves::copy(&mut before[..n], &c[..n]);
-    let number = run_request(st, c, q, r);
+    let number = run_request(st, c, l, q, r);
     let m = clip_both(st.length, c, before);
     changing::show(&before[..m], &c[..m]);
     number
 }
 
 // As the word of the line asks.
-fn run_asked(watched: bool, st: State, c: &mut [u8], q: &[u8], r: &mut [u8]) -> u32 {
+fn run_asked(watched: bool, st: State, c: &mut [u8], l: &mut [u8], q: &[u8], r: &mut [u8]) -> u32 {
     if watched {
         let mut before = [0u8; BUFFER_SIZE];
-        return run_watched(st, c, q, r, &mut before);
+        return run_watched(st, c, l, q, r, &mut before);
     }
-    run_request(st, c, q, r)
+    run_request(st, c, l, q, r)
 }
 
 // The reply space holds AA at first, so that bytes that nobody wrote can be told.
-fn apply(s: &[u8], at: usize, st: State, c: &mut [u8], q: &[u8], watched: bool) -> Step
+fn apply(
+    s: &[u8],
+    at: usize,
+    st: State,
+    c: &mut [u8],
+    l: &mut [u8],
+    q: &[u8],
+    watched: bool,
+) -> Step
     requires { ⌜ at ≤ length (now s) ⌝ }
 {
     let open = st.open;
@@ -203,7 +254,7 @@ fn apply(s: &[u8], at: usize, st: State, c: &mut [u8], q: &[u8], watched: bool) 
             let mut r = [170u8; REPLY_SIZE];
             let k = clip(st.request, q);
             let m = clip(n as usize, &r);
-            let mut next = with_answer(st, run_asked(watched, st, c, &q[..k], &mut r[..m]));
+            let mut next = with_answer(st, run_asked(watched, st, c, l, &q[..k], &mut r[..m]));
             next.request = 0;
             Step::On(next)
         }
@@ -213,7 +264,7 @@ fn apply(s: &[u8], at: usize, st: State, c: &mut [u8], q: &[u8], watched: bool) 
 fn expect(s: &[u8], at: usize, st: State) -> Step
     requires { ⌜ at ≤ length (now s) ⌝ }
 {
-    match commands::only_number(s, at, 12) {
+    match commands::only_number(s, at, LAST_OUTCOME) {
         Argument::Bad(f) => Step::Stop(Why::Layout(f)),
         Argument::Number(n) => {
             if !st.answered {
@@ -233,6 +284,7 @@ fn run_word(
     at: usize,
     st: State,
     c: &mut [u8],
+    l: &mut [u8],
     q: &mut [u8],
     node_id: &mut [u8],
     secret: &mut [u8],
@@ -240,14 +292,15 @@ fn run_word(
     requires { ⌜ at ≤ length (now s) ⌝ }
 {
     match w {
-        Word::Buffer => begin(s, at, st, c),
+        Word::Buffer => begin(s, at, st, c, l),
         Word::Load => load(s, at, st, c),
+        Word::List => list(s, at, st, l),
         Word::Node => node(s, at, st, node_id),
         Word::Enabler => enabler(s, at, st, secret),
         Word::Create => create(s, at, st, c, node_id, secret),
         Word::Bytes => bytes(s, at, st, q),
-        Word::Apply => apply(s, at, st, c, q, false),
-        Word::Watch => apply(s, at, st, c, q, true),
+        Word::Apply => apply(s, at, st, c, l, q, false),
+        Word::Watch => apply(s, at, st, c, l, q, true),
         Word::Expect => expect(s, at, st),
         Word::Say => {
             showing::said(&s[at..]);
@@ -261,24 +314,25 @@ fn run_line(
     s: &[u8],
     st: State,
     c: &mut [u8],
+    l: &mut [u8],
     q: &mut [u8],
     node_id: &mut [u8],
     secret: &mut [u8],
 ) -> Step {
     match commands::command_of(s) {
         Command::Nothing => Step::On(st),
-        Command::Do(w, at) => run_word(w, s, at, st, c, q, node_id, secret),
+        Command::Do(w, at) => run_word(w, s, at, st, c, l, q, node_id, secret),
         Command::Bad(f) => Step::Stop(Why::Layout(f)),
     }
 }
 
 // The end of a file, behind its last line: a request must not be left over.
-fn finish(name: &[u8], line: u64, st: State, c: &[u8]) -> Ran {
+fn finish(name: &[u8], line: u64, st: State, c: &[u8], l: &[u8]) -> Ran {
     if st.request != 0 {
         reporting::stop_at_line(name, line, Why::LeftOver);
         return Ran::Stopped;
     }
-    close(st, c);
+    close(st, c, l);
     Ran::Done(st.requests)
 }
 
@@ -287,6 +341,7 @@ fn run_lines(
     name: &[u8],
     t: &[u8],
     c: &mut [u8],
+    l: &mut [u8],
     q: &mut [u8],
     node_id: &mut [u8],
     secret: &mut [u8],
@@ -306,7 +361,7 @@ fn run_lines(
     while at < t.len() {
         let e = scanning::run_end(t, at, Sort::But(10));
         line += 1;
-        match run_line(&t[at..e], st, c, q, node_id, secret) {
+        match run_line(&t[at..e], st, c, l, q, node_id, secret) {
             Step::On(next) => {
                 st = next;
             }
@@ -317,13 +372,14 @@ fn run_lines(
         }
         at = e + 1;
     }
-    finish(name, line, st, c)
+    finish(name, line, st, c, l)
 }
 
 pub(crate) fn run_text(name: &[u8], t: &[u8]) -> Ran {
     let mut c = [0u8; BUFFER_SIZE];
+    let mut l = [0u8; LIST_LENGTH];
     let mut q = [0u8; BUFFER_SIZE];
     let mut node_id = [0u8; 64];
     let mut secret = [0u8; 64];
-    run_lines(name, t, &mut c, &mut q, &mut node_id, &mut secret)
+    run_lines(name, t, &mut c, &mut l, &mut q, &mut node_id, &mut secret)
 }

@@ -1,4 +1,5 @@
 // The transcript, on standard output.
+use crate::listing;
 use crate::printing;
 use format::judging::Judged;
 use format::layout::EXPIRY_AT;
@@ -7,8 +8,12 @@ use format::layout::Frame;
 use format::layout::LEASES_AT;
 use format::layout::RECORD_SIZE;
 use libc::STDOUT_FILENO;
+use octets::choices::lesser;
 use replies::pieces::LENGTH_SIZE;
 use requests::cursors::Cursor;
+use requests::forms::Form;
+use requests::forms::Table;
+use requests::offsets::resolve;
 use rules::Answer;
 use shares::share::MDMF;
 ghost use Prim.Native.Nat.{_+_, _*_, _≤_, _<_};
@@ -16,11 +21,15 @@ ghost use lib.ListN.{length};
 ghost use Rattle.io.specs.Counts.{Counts};
 ghost use Rattle.format.specs.Layout.{recordSize, leaseLimit, dataAt, limit};
 ghost use Rattle.format.specs.Judging.{Known};
+ghost use Rattle.requests.specs.Forms.{TableIn};
 
 // Longer data and more extra leases are shortened.
 const MOST_BYTES: usize = 128;
 
 const MOST_EXTRAS: usize = 4;
+
+// Above every position in data.
+const MOST_POSITION: usize = 4294967295;
 
 pub(crate) fn write(text: &[u8]) {
     printing::text(STDOUT_FILENO, text);
@@ -52,14 +61,14 @@ pub(crate) fn said(s: &[u8]) {
 pub(crate) fn clip(n: usize, s: &[u8]) -> usize
     ensures { λ r. ⌜ Counts r (now (s .entry)) ⌝ }
 {
-    octets::choices::lesser(n, s.len())
+    lesser(n, s.len())
 }
 
 // n, or all of s or of t where that is less.
 pub(crate) fn clip_both(n: usize, s: &[u8], t: &[u8]) -> usize
     ensures { λ r. ⌜ Counts r (now (s .entry)) × Counts r (now (t .entry)) ⌝ }
 {
-    octets::choices::lesser(clip(n, s), t.len())
+    lesser(clip(n, s), t.len())
 }
 
 // A number in five columns.
@@ -98,52 +107,63 @@ fn hex_all(s: &[u8]) {
     }
 }
 
-fn cell(s: &[u8], i: usize) {
-    if i < s.len() {
-        hex(s[i]);
-        write(b" ");
-    } else {
+// The position i places behind another. Both are far below the bound, which spares the proof of it.
+fn behind(position: usize, i: usize) -> usize {
+    lesser(position, MOST_POSITION) + lesser(i, MOST_POSITION)
+}
+
+// Byte i of those that stand in the data from a position on; `--` where the list names it, blanks where there is none.
+fn cell(s: &[u8], i: usize, l: &[u8], from: usize) {
+    if s.len() <= i {
         write(b"   ");
+        return;
     }
+    if listing::named(l, behind(from, i)) {
+        write(b"-- ");
+        return;
+    }
+    hex(s[i]);
+    write(b" ");
 }
 
 // Sixteen cells, so that what follows stands in one column.
-fn hex_cells(s: &[u8]) {
+fn hex_cells(s: &[u8], l: &[u8], from: usize) {
     let mut i = 0;
     while i < 16 {
-        cell(s, i);
+        cell(s, i, l, from);
         i += 1;
     }
 }
 
-// At most 16 bytes with the position of the first.
-fn row(at: usize, s: &[u8]) {
+// At most 16 bytes behind the place of the first among those that are shown.
+fn row(at: usize, s: &[u8], l: &[u8], from: usize) {
     write(b"      ");
     column(at as u64);
     write(b"  ");
-    hex_cells(s);
+    hex_cells(s, l, from);
     write(b" |");
     ascii(s);
     write(b"|\n");
 }
 
-fn rows(s: &[u8]) {
+// The bytes that stand in the data from a position on, beside the list.
+fn rows(s: &[u8], l: &[u8], from: usize) {
     let mut at = 0;
     while 16 < s.len() - at {
         let e = at + 16;
-        row(at, &s[at..e]);
+        row(at, &s[at..e], l, behind(from, at));
         at = e;
     }
-    row(at, &s[at..]);
+    row(at, &s[at..], l, behind(from, at));
 }
 
 // Nothing of no bytes.
-fn bytes(s: &[u8]) {
+fn bytes(s: &[u8], l: &[u8], from: usize) {
     if s.len() == 0 {
         return;
     }
     let n = clip(MOST_BYTES, s);
-    rows(&s[..n]);
+    rows(&s[..n], l, from);
     if n < s.len() {
         write(b"             ... and ");
         number((s.len() - n) as u64);
@@ -166,6 +186,8 @@ fn name(outcome: u32) {
         10 => write(b"10 sixty-four leases already"),
         11 => write(b"11 no room"),
         12 => write(b"12 already a container"),
+        13 => write(b"13 too many never-written stretches"),
+        16 => write(b"16 the list is not good"),
         _ => number(outcome as u64),
     }
 }
@@ -205,62 +227,60 @@ fn kind(q: &[u8]) {
     }
 }
 
-fn piece(i: usize, s: &[u8]) {
+fn piece(i: usize, s: &[u8], l: &[u8], from: usize) {
     write(b"    piece ");
     number(i as u64);
     write(b", length ");
     number(s.len() as u64);
     write(b"\n");
-    bytes(s);
+    bytes(s, l, from);
 }
 
-// The n pieces of a reply: a table of their lengths, then the pieces.
-fn pieces(r: &[u8], n: usize) {
+// The pieces of a reply: a table of their lengths, then the pieces. Each stands in the data where the entry of the
+// request's table says, on data of a size.
+fn pieces(q: &[u8], t: Table, size: usize, r: &[u8], l: &[u8])
+    requires { ⌜ TableIn (now q) t ⌝ }
+{
+    let n = t.count;
     if r.len() / LENGTH_SIZE < n {
         return;
     }
     let mut at = LENGTH_SIZE * n;
     let mut i = 0;
+    let mut cursor = t.first;
     while i < n {
         let k = octets::numbers::u32_at(r, LENGTH_SIZE * i) as usize;
         if r.len() - at < k {
             return;
         }
         let e = at + k;
+        let entry = cursor.entry(q, t.stride);
+        let place = resolve(entry.offset, size);
         i += 1;
-        piece(i, &r[at..e]);
+        piece(i, &r[at..e], l, place.position);
+        cursor = entry.next;
         at = e;
     }
 }
 
-fn wide(b: u8) -> usize {
-    b as usize
-}
-
-// Test-and-write and read have a reply, whose number of pieces is the request's second byte.
-fn reply(q: &[u8], r: &[u8]) {
-    if q.len() < 2 {
-        return;
-    }
-    let kind = Cursor::start().byte(q);
-    let count = kind.next.byte(q);
-    let n = wide(count.value);
-    let value = kind.value;
-    match value {
-        1 => pieces(r, n),
-        5 => pieces(r, n),
+// Test-and-write and read have a reply.
+fn reply(q: &[u8], size: usize, r: &[u8], l: &[u8]) {
+    match requests::forms::form_of(q) {
+        Form::TestWrite(t) => pieces(q, t.tests, size, r, l),
+        Form::Read(t) => pieces(q, t, size, r, l),
         _ => {}
     }
 }
 
-pub(crate) fn applied(q: &[u8], x: Answer, r: &[u8]) {
+// The answer and the reply to a request, beside the size of the data and the list as they were before it.
+pub(crate) fn applied(q: &[u8], x: Answer, r: &[u8], size: usize, l: &[u8]) {
     kind(q);
     answer(x);
     let n = clip(x.count as usize, r);
     let number = x.number;
     match number {
-        0 => reply(q, &r[..n]),
-        8 => reply(q, &r[..n]),
+        0 => reply(q, size, &r[..n], l),
+        8 => reply(q, size, &r[..n], l),
         _ => {}
     }
 }
@@ -310,14 +330,25 @@ fn sizes(frame: Frame, n: usize)
     write(b" bytes\n");
 }
 
-fn parts(c: &[u8], frame: Frame)
+// The data beside its list. A list that is not good marks no byte.
+fn data(d: &[u8], l: &[u8]) {
+    if lists::list::list_ok(l, d) {
+        bytes(d, l, 0);
+        listing::show(l);
+        return;
+    }
+    bytes(d, b"", 0);
+    write(b"    the list is not good\n");
+}
+
+fn parts(c: &[u8], frame: Frame, l: &[u8])
     requires { ⌜ Known (now c) frame ⌝ }
 {
     let extras = frame.extras;
     sizes(frame, c.len());
-    bytes(container::data::data_of(c));
+    data(container::data::data_of(c), l);
     leases(c, LEASES_AT, FIXED_PLACES, b"place ");
-    let shown = octets::choices::lesser(extras, MOST_EXTRAS);
+    let shown = lesser(extras, MOST_EXTRAS);
     leases(c, frame.extras_at(), shown, b"extra ");
     if shown < extras {
         write(b"    ... and ");
@@ -327,11 +358,11 @@ fn parts(c: &[u8], frame: Frame)
 }
 
 // What a container holds at its end.
-pub(crate) fn container(c: &[u8]) {
+pub(crate) fn container(c: &[u8], l: &[u8]) {
     match format::judging::judge(c) {
         Judged::BadLength => write(b"the container   none: the buffer's length is not allowed\n"),
         Judged::Malformed => write(b"the container   none: the buffer is not well formed\n"),
-        Judged::Formed(frame) => parts(c, frame),
+        Judged::Formed(frame) => parts(c, frame, l),
     }
 }
 

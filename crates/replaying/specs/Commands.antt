@@ -24,12 +24,14 @@ use Rattle.replaying.specs.declared.commands.Argument.the-variants.{Numb
 use Rattle.replaying.specs.declared.commands.Word.{Word}
 use Rattle.replaying.specs.declared.commands.Word.the-variants.{Buffer, Load, Node, Enabler, Create, Bytes, Apply}
 use Rattle.replaying.specs.declared.commands.Word.the-variants.{Watch, Expect, Say, Unknown}
+use Rattle.replaying.specs.declared.commands.Word.the-variants.{List as ListWord}
 
--- buffer, load, node, enabler, create, bytes, apply, watch, expect, say; in ASCII.
+-- buffer, load, list, node, enabler, create, bytes, apply, watch, expect, say; in ASCII.
 unfoldable pub wordOf : List ℕ → Word
 wordOf w =
     cond (same w (98 ∷ 117 ∷ 102 ∷ 102 ∷ 101 ∷ 114 ∷ [])) Buffer
     (cond (same w (108 ∷ 111 ∷ 97 ∷ 100 ∷ [])) Load
+    (cond (same w (108 ∷ 105 ∷ 115 ∷ 116 ∷ [])) ListWord
     (cond (same w (110 ∷ 111 ∷ 100 ∷ 101 ∷ [])) Node
     (cond (same w (101 ∷ 110 ∷ 97 ∷ 98 ∷ 108 ∷ 101 ∷ 114 ∷ [])) Enabler
     (cond (same w (99 ∷ 114 ∷ 101 ∷ 97 ∷ 116 ∷ 101 ∷ [])) Create
@@ -37,7 +39,7 @@ wordOf w =
     (cond (same w (97 ∷ 112 ∷ 112 ∷ 108 ∷ 121 ∷ [])) Apply
     (cond (same w (119 ∷ 97 ∷ 116 ∷ 99 ∷ 104 ∷ [])) Watch
     (cond (same w (101 ∷ 120 ∷ 112 ∷ 101 ∷ 99 ∷ 116 ∷ [])) Expect
-    (cond (same w (115 ∷ 97 ∷ 121 ∷ [])) Say Unknown)))))))))
+    (cond (same w (115 ∷ 97 ∷ 121 ∷ [])) Say Unknown))))))))))
 
 -- The word that begins at a position goes up to the next space.
 unfoldable pub wordTo : List ℕ → ℕ → ℕ → Command

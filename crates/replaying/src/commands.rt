@@ -17,6 +17,7 @@ ghost use Rattle.replaying.specs.Commands.{endsAt, argumentAt};
 pub enum Word {
     Buffer,
     Load,
+    List,
     Node,
     Enabler,
     Create,
@@ -73,6 +74,7 @@ fn word_of(w: &[u8]) -> Word
     word = pick(is(w, b"create"), Word::Create, word);
     word = pick(is(w, b"enabler"), Word::Enabler, word);
     word = pick(is(w, b"node"), Word::Node, word);
+    word = pick(is(w, b"list"), Word::List, word);
     word = pick(is(w, b"load"), Word::Load, word);
     word = pick(is(w, b"buffer"), Word::Buffer, word);
     word

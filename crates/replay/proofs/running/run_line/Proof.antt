@@ -13,8 +13,9 @@ enum-known-w : tie.Need-enum-known-w
 enum-known-w c = search needs
 
 run-word-requires : tie.Need-run-word-requires
-run-word-requires c κs = rw (c .before .before .before .before .before .w .given .1) at
-    (c .before .before .before .before .before .before .before .command-of .ensures .1)
+run-word-requires c κs =
+    let w = c .before .before .before .before .before .before in
+    rw (w .w .given .1) at (w .before .before .command-of .ensures .1)
 
 enum-known-f : tie.Need-enum-known-f
 enum-known-f c = search needs
@@ -33,6 +34,9 @@ same-length-3 c = search needs
 
 same-length-4 : tie.Need-same-length-4
 same-length-4 c = search needs
+
+same-length-5 : tie.Need-same-length-5
+same-length-5 c = search needs
 
 returns-2 : tie.Need-returns-2
 returns-2 c = search needs
@@ -54,5 +58,6 @@ run-line-spec =
     same-length-2
     same-length-3
     same-length-4
+    same-length-5
     returns-2
     returns-3)

@@ -5,10 +5,10 @@ use Rattle.replay.proofs.showing.hex_cells.Statement.{statement}
 use Rattle.replay.proofs.showing.hex_cells.Tie as tie
 
 abbrev Inv-loop : tie.InvT-loop
-Inv-loop s i₀ i = i ≤ 16
+Inv-loop s l from i₀ i = i ≤ 16
 
 abbrev μ-loop : tie.MeasureT-loop
-μ-loop s i₀ i = 16 - i
+μ-loop s l from i₀ i = 16 - i
 
 loop-holds : tie.Need-loop-holds Inv-loop μ-loop
 loop-holds c = omega arith

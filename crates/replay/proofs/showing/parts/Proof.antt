@@ -7,27 +7,29 @@ use Rattle.replay.proofs.showing.parts.Tie as tie
 
 sizes-requires : tie.Need-sizes-requires
 sizes-requires c κs =
-    let z = known-room (c .before .pre) in
+    let z = known-room (c .before .before .pre) in
     (omega (arith, z .1, z .2), z .0, omega (arith, z .3))
 
 data-of-requires : tie.Need-data-of-requires
 data-of-requires c κs = search needs
 
-bytes-requires : tie.Need-bytes-requires
-bytes-requires c κs = search needs
+data-requires : tie.Need-data-requires
+data-requires c κs = search needs
 
 slice-aggregate-leases : tie.Need-slice-aggregate-leases
 slice-aggregate-leases c = search needs
 
 leases-requires : tie.Need-leases-requires
-leases-requires c κs = let z = known-room (c .before .before .before .before .before .pre) in omega (arith, z .0, z .1)
+leases-requires c κs =
+    let z = known-room (c .before .before .before .before .before .before .pre) in
+    omega (arith, z .0, z .1)
 
 lesser-requires : tie.Need-lesser-requires
 lesser-requires c κs = search needs
 
 extras-at-requires : tie.Need-extras-at-requires
 extras-at-requires c κs =
-    let z = known-room (c .before .before .before .before .before .before .before .pre) in
+    let z = known-room (c .before .before .before .before .before .before .before .before .pre) in
     omega (arith, z .1, z .2)
 
 slice-aggregate-leases-2 : tie.Need-slice-aggregate-leases-2
@@ -35,7 +37,7 @@ slice-aggregate-leases-2 c = search needs
 
 leases-requires-2 : tie.Need-leases-requires-2
 leases-requires-2 c κs =
-    let s = c .before .before .before .before .before .before .before .before .before in
+    let s = c .before .before .before .before .before .before .before .before .before .before in
     omega (arith, known-room (s .pre) .1, c .before .before .lesser .ensures .0, c .before .extras-at .ensures)
 
 slice-aggregate-write : tie.Need-slice-aggregate-write
@@ -68,7 +70,7 @@ parts-spec =
     (tie.spec
     sizes-requires
     data-of-requires
-    bytes-requires
+    data-requires
     slice-aggregate-leases
     leases-requires
     lesser-requires

@@ -1,16 +1,30 @@
--- The table lies inside, and so does the position.
-use Prim.Native.Nat.{_≤_, _-_, _*_}
+-- The table of lengths lies inside the reply, and so does the position; what is left of the request's table lies inside
+-- the request.
+use mathlib.Core.Path.{_≡_, ap}
+use Prim.Native.Nat.{ℕ, _≤_, _<_, _+_, _-_, _*_}
 use lib.ListN.{length}
 use native.Mathlib.Omega.{arith}
 use Rattle.rules.specs.Testing.{lengthSize}
+use Rattle.requests.specs.declared.cursors.Entry.{Entry}
+use Rattle.requests.proofs.FormLaws.{times-next}
 use Rattle.replay.proofs.showing.pieces.Statement.{statement}
 use Rattle.replay.proofs.showing.pieces.Tie as tie
 
 abbrev Inv-loop : tie.InvT-loop
-Inv-loop r n at₀ i₀ at i = (i ≤ n) × (lengthSize * n ≤ length r) × (at ≤ length r)
+Inv-loop q t size r l n at₀ i₀ cursor₀ at i cursor =
+    (i ≤ n)
+    × (lengthSize * n ≤ length r)
+    × (at ≤ length r)
+    × (cursor .at + t .stride * (n - i) ≤ length q)
 
 abbrev μ-loop : tie.MeasureT-loop
-μ-loop r n at₀ i₀ at i = n - i
+μ-loop q t size r l n at₀ i₀ cursor₀ at i cursor = n - i
+
+-- One entry and those behind it.
+entry-next : (stride n i : ℕ) → i < n → stride * (n - i) ≡ stride * (n - (i + 1)) + stride
+entry-next stride n i h =
+    let e : n - (i + 1) ≡ n - i - 1 = omega arith in
+    rw e (times-next stride (n - i) 0 (omega arith))
 
 returns : tie.Need-returns Inv-loop μ-loop
 returns c = tt
@@ -19,7 +33,10 @@ mul-at : tie.Need-mul-at Inv-loop μ-loop
 mul-at c = omega arith
 
 loop-holds : tie.Need-loop-holds Inv-loop μ-loop
-loop-holds c = (omega arith, omega arith, omega arith)
+loop-holds c =
+    let s = c .before .before .before .before .before in
+    let n : s .args .t .count - 0 ≡ s .args .t .count = omega arith in
+    (omega arith, omega arith, omega arith, rw n (s .pre .inside))
 
 mul-u32-at : tie.Need-mul-u32-at Inv-loop μ-loop
 mul-u32-at c = omega arith
@@ -38,6 +55,17 @@ returns-2 c = tt
 
 add-e : tie.Need-add-e Inv-loop μ-loop
 add-e c = omega arith
+
+entry-requires : tie.Need-entry-requires Inv-loop μ-loop
+entry-requires c κs =
+    let w = c .before .before in
+    let l = w .before .loop in
+    let s = w .before .before .before .before .before .before .before in
+    let e = entry-next (s .args .t .stride) (s .args .t .count) (l .i) (w .loop-test .taken) in
+    (s .pre .wide, omega (arith, l .inv .3, e))
+
+resolve-requires : tie.Need-resolve-requires Inv-loop μ-loop
+resolve-requires c κs = tt
 
 add-i : tie.Need-add-i Inv-loop μ-loop
 add-i c = omega arith
@@ -58,7 +86,14 @@ loop-less : tie.Need-loop-less Inv-loop μ-loop
 loop-less c = omega arith
 
 loop-again : tie.Need-loop-again Inv-loop μ-loop
-loop-again c = (omega arith, omega arith, omega arith)
+loop-again c =
+    let x = c .before .before .before .before .before in
+    let w = x .before .before .before in
+    let l = w .before .loop in
+    let s = w .before .before .before .before .before .before .before in
+    let e = entry-next (s .args .t .stride) (s .args .t .count) (l .i) (w .loop-test .taken) in
+    let n = ap (λ (y : Entry). y .next .at) (x .entry .ensures) in
+    (omega arith, omega arith, omega arith, omega (arith, l .inv .3, e, n))
 
 returns-3 : tie.Need-returns-3 Inv-loop μ-loop
 returns-3 c = tt
@@ -78,6 +113,8 @@ pieces-spec =
     sub-if2
     returns-2
     add-e
+    entry-requires
+    resolve-requires
     add-i
     sub-piece
     part-piece-start

@@ -6,10 +6,10 @@ use Rattle.replay.proofs.showing.rows.Statement.{statement}
 use Rattle.replay.proofs.showing.rows.Tie as tie
 
 abbrev Inv-loop : tie.InvT-loop
-Inv-loop s at₀ at = at ≤ length s
+Inv-loop s l from at₀ at = at ≤ length s
 
 abbrev μ-loop : tie.MeasureT-loop
-μ-loop s at₀ at = length s - at
+μ-loop s l from at₀ at = length s - at
 
 loop-holds : tie.Need-loop-holds Inv-loop μ-loop
 loop-holds c = omega arith
@@ -29,6 +29,9 @@ part-row-start c = omega arith
 part-row-end : tie.Need-part-row-end Inv-loop μ-loop
 part-row-end c = omega arith
 
+behind-requires : tie.Need-behind-requires Inv-loop μ-loop
+behind-requires c κs = tt
+
 row-requires : tie.Need-row-requires Inv-loop μ-loop
 row-requires c κs = tt
 
@@ -46,6 +49,9 @@ part-row-start-2 c = omega arith
 
 part-row-end-2 : tie.Need-part-row-end-2 Inv-loop μ-loop
 part-row-end-2 c = omega arith
+
+behind-requires-2 : tie.Need-behind-requires-2 Inv-loop μ-loop
+behind-requires-2 c κs = tt
 
 row-requires-2 : tie.Need-row-requires-2 Inv-loop μ-loop
 row-requires-2 c κs = tt
@@ -65,11 +71,13 @@ rows-spec =
     sub-row
     part-row-start
     part-row-end
+    behind-requires
     row-requires
     loop-less
     loop-again
     sub-row-2
     part-row-start-2
     part-row-end-2
+    behind-requires-2
     row-requires-2
     returns)
