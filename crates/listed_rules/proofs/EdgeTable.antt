@@ -1,7 +1,7 @@
 -- P58 to P63: the tables hold. Assumes nothing.
 use mathlib.Core.Path.{_≡_, refl, sym, ap, ap₂, _∙_}
 use mathlib.Core.Bool.{true, false, false≢true}
-use mathlib.Core.List.{List, [], _∷_, map}
+use mathlib.Core.List.{List, [], _∷_, _++_, map}
 use mathlib.Core.Option.{some}
 use Prim.Native.Nat.{ℕ}
 use native.Mathlib.Omega.{arith}
@@ -38,7 +38,7 @@ use Rattle.rules.proofs.Demand1.{created, created-valid}
 use Rattle.histories.specs.Runs.{Heard}
 use Rattle.stretches.specs.Stretches.{Stretch, stretch, rising, between, below, above, joined, gapped, writtenOver}
 use Rattle.stretches.specs.Stretches.{stretchesBy, stretchesAfter, listed}
-use Rattle.stretches.specs.List.{rowCount, rowsFrom, stretchesOf, rowBytes, freshList, zeroIn, listOk}
+use Rattle.stretches.specs.List.{rowCount, rowsFrom, stretchesOf, rowBytes, listBytes, freshList, zeroIn, listOk}
 use Rattle.stretches.proofs.ShapeLaws.{rising-facts}
 use Rattle.stretches.proofs.Claims.{zero-list}
 use Rattle.listed_rules.specs.Outcomes.{nextStretches, outcomeBeside}
@@ -203,6 +203,11 @@ computed = record {
   far-refused = λ q ws m. fresh-by 481 refl (q ∷ []) ∙ rw (m .is, m .resolved, m .made) refl;
 }
 
+row-bytes : listBytes (stretch 1 2 ∷ stretch 260 4 ∷ [])
+    ≡ (0 ∷ 0 ∷ 0 ∷ 2 ∷ 0 ∷ 0 ∷ 0 ∷ 1 ∷ 0 ∷ 0 ∷ 0 ∷ 2 ∷ 0 ∷ 0 ∷ 1 ∷ 4 ∷ 0 ∷ 0 ∷ 0 ∷ 4 ∷ []) ++ replicate 2032 0
+unfolding listBytes digits join rowBytes
+row-bytes = refl
+
 -- THE TABLES' CLAIM
 pub list-edges : ListEdgesHold
 list-edges = record {
@@ -211,4 +216,5 @@ list-edges = record {
   far = computed .far farCut farWrite far-makes;
   far-refused = computed .far-refused farCut farWrite far-makes;
   crowding = computed .crowding;
+  bytes = row-bytes;
 }

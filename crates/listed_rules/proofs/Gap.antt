@@ -24,10 +24,10 @@ use Rattle.stretches.proofs.MemberLaws.{listed-written}
 use Rattle.stretches.proofs.ShapeLaws.{listed-high}
 use Rattle.listed_rules.specs.Runs.{Slot, Sent, hearsIn, leavesIn, WritesThrough, SlotParts, ruleHearsIn}
 use Rattle.listed_rules.specs.Runs.{ruleLeavesIn}
-use Rattle.listed_rules.specs.Gap.{CutsIn, WritesPast, after, Quiet, lists, GapListed}
+use Rattle.listed_rules.specs.Gap.{GapAlone, CutsIn, WritesPast, after, Quiet, lists, GapListed}
 use Rattle.listed_rules.proofs.Steps.{Through, tookIn, step-stretches, step-size, Sound, sound-left, slotOf}
 use Rattle.listed_rules.proofs.Steps.{stretches-back, hears-slot, leaves-slot}
-use Rattle.listed_rules.proofs.RunLaws.{Followed, followed, ruleChanges, data-accepted}
+use Rattle.listed_rules.proofs.RunLaws.{Followed, followed, ruleChanges, data-accepted, stretches-accepted}
 use Rattle.listed_rules.proofs.Demand3.{fresh-sound, fresh-slot}
 
 -- ---- a history in two parts
@@ -114,6 +114,13 @@ quiet-size s v h w e =
     let z : ruleChanges h s ≡ [] = rw (followed h s w v .heard, size-slot s v) at e in
     ap length (data-accepted h s) ∙ rw z
 
+quiet-stretches : (s : SlotParts) → Sound s → (h : List Sent) → WritesThrough h → Quiet h (slotOf s) →
+    final ruleLeavesIn h s .stretches ≡ s .stretches
+unfolding stretchesAfter
+quiet-stretches s v h w e =
+    let z : ruleChanges h s ≡ [] = rw (followed h s w v .heard, size-slot s v) at e in
+    stretches-accepted h s w ∙ rw z
+
 module _ (s : SlotParts) (v : Sound s) where
   added : (h : List Sent) (y : Sent) (p : ℕ) → WritesThrough (h ++ (y ∷ [])) → WritesPast y (after h (slotOf s)) p →
       (i : ℕ) →
@@ -143,11 +150,11 @@ module _ (s : SlotParts) (v : Sound s) where
       )
       (cut-short t (f .sound) x m (rw (f .left) at q))
 
-  -- with nothing accepted between, the size is the same, and nothing is listed from there on
+  -- with nothing accepted between, size and list are the same
   quiet-end : (h between : List Sent) → WritesThrough (h ++ between) → Quiet between (after h (slotOf s)) →
       (length (dataOf (after (h ++ between) (slotOf s) .container)) ≡ length (dataOf (after h (slotOf s) .container)))
-      × ((i : ℕ) → length (dataOf (after h (slotOf s) .container)) ≤ i →
-      lists (after (h ++ between) (slotOf s)) i ≡ false)
+      × (((i : ℕ) → length (dataOf (after h (slotOf s) .container)) ≤ i → lists (after h (slotOf s)) i ≡ false)
+      × ((i : ℕ) → lists (after (h ++ between) (slotOf s)) i ≡ lists (after h (slotOf s)) i))
   quiet-end h between w e =
       let k = each-split (λ (x : Sent). Through x) h between w in
       let f : Followed h s = followed h s (k .0) v in
@@ -157,27 +164,30 @@ module _ (s : SlotParts) (v : Sound s) where
       let a : after (h ++ between) (slotOf s) ≡ slotOf u =
       final-append leavesIn h between (slotOf s) ∙ ap (final leavesIn between) (f .left) ∙ g .left in
       let z : length (u .parts .bytes) ≡ length (t .parts .bytes) =
-      quiet-size t (f .sound) between (k .1) (rw (f .left) at e) in (
+      quiet-size t (f .sound) between (k .1) (rw (f .left) at e) in
+      let m : u .stretches ≡ t .stretches = quiet-stretches t (f .sound) between (k .1) (rw (f .left) at e) in (
         rw (a, f .left, size-slot u (g .sound), size-slot t (f .sound)) z,
-        λ i h. rw a (none-behind u (g .sound) i (omega (arith, z, (rw (f .left, size-slot t (f .sound)) at h)))),
+        (
+          λ i h. rw (f .left) (none-behind t (f .sound) i (rw (f .left, size-slot t (f .sound)) at h)),
+          λ i. rw (a, f .left) (lists-slot u (g .sound) i ∙ ap (λ (rs : List Stretch). listed rs i) m ∙ sym (lists-slot t (f .sound) i)),
+        ),
       )
 
   exactly : (h : List Sent) (x : Sent) (m : ℕ) (between : List Sent) (y : Sent) (p : ℕ) →
       WritesThrough (((h ++ (x ∷ [])) ++ between) ++ (y ∷ [])) → CutsIn x (after h (slotOf s)) m →
       Quiet between (after (h ++ (x ∷ [])) (slotOf s)) →
       WritesPast y (after ((h ++ (x ∷ [])) ++ between) (slotOf s)) p →
-      (length (dataOf (after (h ++ (x ∷ [])) (slotOf s) .container)) ≤ m)
-      × ((i : ℕ) → length (dataOf (after (h ++ (x ∷ [])) (slotOf s) .container)) ≤ i →
-      lists (after (((h ++ (x ∷ [])) ++ between) ++ (y ∷ [])) (slotOf s)) i
-      ≡ within (length (dataOf (after (h ++ (x ∷ [])) (slotOf s) .container))) p i)
+      GapAlone m p (after (h ++ (x ∷ [])) (slotOf s)) (after (((h ++ (x ∷ [])) ++ between) ++ (y ∷ [])) (slotOf s))
   exactly h x m between y p w c e q =
       let a : List Sent = h ++ (x ∷ []) in
       let k = each-split (λ (x : Sent). Through x) (a ++ between) (y ∷ []) w in
       let l = each-split (λ (x : Sent). Through x) a between (k .0) in
-      let z = quiet-end a between (k .0) e in (
-        short h x m (l .0) c,
-        λ i g. added (a ++ between) y p w q i ∙ rw (z .0, z .1 i g),
-      )
+      let z = quiet-end a between (k .0) e in
+      record {
+        short = short h x m (l .0) c;
+        none-behind = z .1 .0;
+        gap = λ i. added (a ++ between) y p w q i ∙ rw (z .0, z .1 .1 i);
+      }
 
 -- THE GAP IS LISTED
 pub gap-listed : (b node enabler : List ℕ) → GapListed b node enabler

@@ -24,12 +24,18 @@ said n rs = take listLength (digits 4 n ++ (join (map rowBytes rs) ++ replicate 
 abbrev pub fifth : List ℕ
 fifth = spare 500 (0 ∷ 0 ∷ 0 ∷ 0 ∷ 5 ∷ 0 ∷ 0 ∷ 0 ∷ 0 ∷ 0 ∷ []) 3
 
--- The list of no rows with a byte behind them, and one row more than there may be.
+-- n rows of one position each, every second from p on.
+unfoldable pub dotted : ℕ → ℕ → List Stretch
+dotted zero p = []
+dotted (suc n) p = stretch p 1 ∷ dotted n (p + 2)
+
+-- A list of 256 rows, the first of three positions, beside 514 zeros.
+abbrev pub full : Slot
+full = record { container = spare 1100 (replicate 514 0) 0; list = listBytes (stretch 0 3 ∷ dotted 255 4) }
+
+-- The list of no rows with a byte at its end.
 abbrev pub trailing : List ℕ
 trailing = take 2051 freshList ++ (1 ∷ [])
-
-abbrev pub tooMany : List ℕ
-tooMany = said 257 []
 
 -- A container beside a list, and a request; the number that it gets, beside eight bytes of reply space.
 pub record Beside : Type 0 where
@@ -47,16 +53,17 @@ numberOf x = outcomeBeside (x .container) (x .list) (x .request) (length space)
 abbrev pub foreign : List ℕ
 foreign = (1 ∷ 0 ∷ 1 ∷ 0 ∷ []) ++ (digits 4 0 ++ (replicate 32 1 ++ (digits 4 0 ++ (digits 4 1 ++ (88 ∷ [])))))
 
--- P58, each beside the empty request: lists of 2,051 bytes, of 2,053 and of none; a count of 257; a row of length 0; rows
--- that touch, that overlap, that fall; a row that ends behind the data, also in the slack; one over a byte that is not
--- zero, at its end and at its start; a byte behind the last row; one whose end is 2^32 or more. Then lists that are
+-- P58, each beside the empty request: lists of 2,051 bytes, of 2,053 and of none; a count of 257 before 256 rows that are
+-- good beside 514 zeros; a row of length 0; rows that touch, that overlap, that fall; a row that ends behind the data, also
+-- in the slack; one over a byte that is not zero, at its end and at its start; a byte at the list's end, a row behind the
+-- last; one whose end is 2^32 or more. Then lists that are
 -- good: no rows, up to the data's end, the two stretches of zeros, fewer than there could be.
 abbrev pub refusals : List Beside
 refusals =
     asks fifth (take 2051 freshList) []
     ∷ asks fifth (freshList ++ (0 ∷ [])) []
     ∷ asks fifth [] []
-    ∷ asks fifth tooMany []
+    ∷ asks (full .container) (said 257 (stretch 0 3 ∷ dotted 255 4)) []
     ∷ asks fifth (said 1 (stretch 2 0 ∷ [])) []
     ∷ asks fifth (said 2 (stretch 0 1 ∷ stretch 1 1 ∷ [])) []
     ∷ asks fifth (said 2 (stretch 0 3 ∷ stretch 2 2 ∷ [])) []
@@ -66,6 +73,7 @@ refusals =
     ∷ asks fifth (said 1 (stretch 3 2 ∷ [])) []
     ∷ asks fifth (said 1 (stretch 4 2 ∷ [])) []
     ∷ asks fifth trailing []
+    ∷ asks fifth (said 0 (stretch 0 1 ∷ [])) []
     ∷ asks fifth (said 1 (stretch 1 4294967295 ∷ [])) []
     ∷ asks fifth freshList []
     ∷ asks fifth (said 1 (stretch 8 2 ∷ [])) []
@@ -85,7 +93,7 @@ refusals =
 
 abbrev pub refused : List ℕ
 refused =
-    16 ∷ 16 ∷ 16 ∷ 16 ∷ 16 ∷ 16 ∷ 16 ∷ 16 ∷ 16 ∷ 16 ∷ 16 ∷ 16 ∷ 16 ∷ 16 ∷ 3 ∷ 3 ∷ 3 ∷ 3
+    16 ∷ 16 ∷ 16 ∷ 16 ∷ 16 ∷ 16 ∷ 16 ∷ 16 ∷ 16 ∷ 16 ∷ 16 ∷ 16 ∷ 16 ∷ 16 ∷ 16 ∷ 3 ∷ 3 ∷ 3 ∷ 3
     ∷ 1 ∷ 2 ∷ 16 ∷ 16 ∷ 16 ∷ 16 ∷ 5 ∷ 4 ∷ []
 
 -- ---- what writes and cuts make of a list
@@ -138,9 +146,10 @@ cut m = testAndWrite [] [] 1 m
 
 -- P60: a gap of four; filled at its left, at its right, in its middle, exactly, across its right end; zeros written into
 -- it; an empty write behind the end; appends behind a gap; two gaps in one request; a gap split in the request that
--- makes it; a false test, then a read and a lease beside it.
+-- makes it, and filled there from the end; a write across a gap's left end; one over a row and a part of the next; a
+-- false test, then a read and a lease beside it.
 -- P61: cuts to 2, 4, 0 and 5 of what stands behind a gap of four; to 2, and then `Z` at 4; the same where all was
--- written; a write at 6 and a cut to 3 in one request.
+-- written; a write at 6 and a cut to 3 in one request; a cut above the size.
 abbrev pub gaps : List (List (List ℕ))
 gaps =
     (gapOfFour ∷ [])
@@ -154,6 +163,9 @@ gaps =
     ∷ (one 2 65 ∷ one (back 1) 66 ∷ one 7 67 ∷ [])
     ∷ (write (bytesAt 1 (65 ∷ []) ∷ bytesAt 4 (66 ∷ []) ∷ []) ∷ [])
     ∷ (write (bytesAt 5 (65 ∷ []) ∷ bytesAt 2 (66 ∷ []) ∷ []) ∷ [])
+    ∷ (write (bytesAt 3 (65 ∷ []) ∷ bytesAt (back 5) (66 ∷ []) ∷ []) ∷ [])
+    ∷ (one 0 65 ∷ one 4 66 ∷ write (bytesAt 0 (67 ∷ 68 ∷ []) ∷ []) ∷ [])
+    ∷ (gapOfFour ∷ one 1 67 ∷ write (bytesAt 0 (68 ∷ 69 ∷ 70 ∷ []) ∷ []) ∷ [])
     ∷ (gapOfFour
     ∷ testAndWrite (check 0 1 3 (88 ∷ []) ∷ []) (bytesAt 0 (67 ∷ []) ∷ []) 0 0
     ∷ reading (readEntry 0 4 ∷ [])
@@ -166,6 +178,7 @@ gaps =
     ∷ (gapOfFour ∷ cut 2 ∷ one 4 90 ∷ [])
     ∷ (write (bytesAt 0 (65 ∷ 66 ∷ 67 ∷ 68 ∷ 69 ∷ 70 ∷ []) ∷ []) ∷ cut 2 ∷ one 4 90 ∷ [])
     ∷ (testAndWrite [] (bytesAt 6 (65 ∷ []) ∷ []) 1 3 ∷ [])
+    ∷ (gapOfFour ∷ cut 9 ∷ [])
     ∷ []
 
 abbrev pub gapped : List Listing
@@ -181,6 +194,9 @@ gapped =
     ∷ lists (0 ∷ 0 ∷ 0 ∷ []) (0 ∷ 0 ∷ 65 ∷ 66 ∷ 0 ∷ 0 ∷ 0 ∷ 67 ∷ []) (stretch 0 2 ∷ stretch 4 3 ∷ [])
     ∷ lists (0 ∷ []) (0 ∷ 65 ∷ 0 ∷ 0 ∷ 66 ∷ []) (stretch 0 1 ∷ stretch 2 2 ∷ [])
     ∷ lists (0 ∷ []) (0 ∷ 0 ∷ 66 ∷ 0 ∷ 0 ∷ 65 ∷ []) (stretch 0 2 ∷ stretch 3 2 ∷ [])
+    ∷ lists (0 ∷ []) (66 ∷ 0 ∷ 0 ∷ 65 ∷ []) (stretch 1 2 ∷ [])
+    ∷ lists (0 ∷ 0 ∷ 0 ∷ []) (67 ∷ 68 ∷ 0 ∷ 0 ∷ 66 ∷ []) (stretch 2 2 ∷ [])
+    ∷ lists (0 ∷ 0 ∷ 0 ∷ []) (68 ∷ 69 ∷ 70 ∷ 0 ∷ 65 ∷ 66 ∷ []) (stretch 3 1 ∷ [])
     ∷ lists (0 ∷ 8 ∷ 0 ∷ 0 ∷ []) (0 ∷ 0 ∷ 0 ∷ 0 ∷ 65 ∷ 66 ∷ []) (stretch 0 4 ∷ [])
     ∷ lists (0 ∷ 0 ∷ []) (0 ∷ 0 ∷ []) (stretch 0 2 ∷ [])
     ∷ lists (0 ∷ 0 ∷ []) (0 ∷ 0 ∷ 0 ∷ 0 ∷ []) (stretch 0 4 ∷ [])
@@ -189,6 +205,7 @@ gapped =
     ∷ lists (0 ∷ 0 ∷ 0 ∷ []) (0 ∷ 0 ∷ 0 ∷ 0 ∷ 90 ∷ []) (stretch 0 4 ∷ [])
     ∷ lists (0 ∷ 0 ∷ 0 ∷ []) (65 ∷ 66 ∷ 0 ∷ 0 ∷ 90 ∷ []) (stretch 2 2 ∷ [])
     ∷ lists (0 ∷ []) (0 ∷ 0 ∷ 0 ∷ []) (stretch 0 3 ∷ [])
+    ∷ lists (0 ∷ 0 ∷ []) (0 ∷ 0 ∷ 0 ∷ 0 ∷ 65 ∷ 66 ∷ []) (stretch 0 4 ∷ [])
     ∷ []
 
 -- P62: one byte at 2,147,483,647 and a cut to 10, in a container of 482 bytes and in one of 481.
@@ -199,15 +216,6 @@ abbrev pub freshIn : ℕ → Slot
 freshIn n = record { container = createdContainer (replicate n 0) node enabler; list = freshList }
 
 -- ---- when there are too many rows
--- n rows of one position each, every second from p on.
-unfoldable pub dotted : ℕ → ℕ → List Stretch
-dotted zero p = []
-dotted (suc n) p = stretch p 1 ∷ dotted n (p + 2)
-
--- A list of 256 rows, the first of three positions, beside 514 zeros.
-abbrev pub full : Slot
-full = record { container = spare 1100 (replicate 514 0) 0; list = listBytes (stretch 0 3 ∷ dotted 255 4) }
-
 -- What one request on it gives: its number, how many rows there are then, and the first of them.
 pub record Counted : Type 0 where
   pub number : ℕ
@@ -228,7 +236,8 @@ counts n k rs = record { number = n; rows = k; first = rs }
 
 -- P63: a byte into the first row's middle, which splits it; a byte behind the end, which makes a gap; the first with a
 -- byte before it that takes the split's left half away, and with a cut that takes the last row away: 257 rows on the
--- way, 256 in the end; a byte at the first row's start; over the last row; a read; the split with a false test.
+-- way, 256 in the end; a byte at the first row's start; over the last row; a read; the split with a false test; a byte
+-- behind the end for which there is no room, and at the last place for which there is.
 abbrev pub crowded : List (List ℕ)
 crowded =
     one 1 88
@@ -239,6 +248,8 @@ crowded =
     ∷ one 512 88
     ∷ reading (readEntry 0 1 ∷ [])
     ∷ testAndWrite (check 0 1 3 (88 ∷ []) ∷ []) (bytesAt 1 (88 ∷ []) ∷ []) 0 0
+    ∷ one 628 88
+    ∷ one 627 88
     ∷ []
 
 abbrev pub counted : List Counted
@@ -251,6 +262,8 @@ counted =
     ∷ counts 0 255 (stretch 0 3 ∷ stretch 4 1 ∷ [])
     ∷ counts 0 256 (stretch 0 3 ∷ stretch 4 1 ∷ [])
     ∷ counts 8 256 (stretch 0 3 ∷ stretch 4 1 ∷ [])
+    ∷ counts 11 256 (stretch 0 3 ∷ stretch 4 1 ∷ [])
+    ∷ counts 13 256 (stretch 0 3 ∷ stretch 4 1 ∷ [])
     ∷ []
 
 -- All of them.
@@ -264,3 +277,6 @@ pub record ListEdgesHold : Type 0 where
   pub far-refused : listing (freshIn 481) (farCut ∷ []) ≡ lists (11 ∷ []) [] []
   -- every request on the slot with 256 rows gives what stands beside it
   pub crowding : map counting crowded ≡ counted
+  -- the bytes of a list
+  pub bytes : listBytes (stretch 1 2 ∷ stretch 260 4 ∷ [])
+      ≡ (0 ∷ 0 ∷ 0 ∷ 2 ∷ 0 ∷ 0 ∷ 0 ∷ 1 ∷ 0 ∷ 0 ∷ 0 ∷ 2 ∷ 0 ∷ 0 ∷ 1 ∷ 4 ∷ 0 ∷ 0 ∷ 0 ∷ 4 ∷ []) ++ replicate 2032 0

@@ -2,7 +2,7 @@
 -- D16). Proved in proofs/Gap.antt.
 use Prim.Native.Nat.{ℕ, _≤_, _<_}
 use mathlib.Core.Path.{_≡_}
-use mathlib.Core.Bool.{Bool, _||_}
+use mathlib.Core.Bool.{Bool, false, _||_}
 use mathlib.Core.List.{List, [], _∷_, _++_}
 use mathlib.Core.Option.{none, some}
 use lib.ListN.{length}
@@ -53,6 +53,14 @@ Quiet h s = accepted (callsOf h) (answers hearsIn leavesIn h s) (length (dataOf 
 abbrev pub lists : Slot → ℕ → Bool
 lists s i = listed (stretchesOf (s .list)) i
 
+-- Of a cut to m, the slot `cut` right after it, a write at p past the end, and the slot `last` right after that.
+pub record GapAlone (m p : ℕ) (cut last : Slot) : Type 0 where
+  -- the cut leaves at most m bytes, and nothing is listed at or behind their end, whatever was listed before it
+  pub short : length (dataOf (cut .container)) ≤ m
+  pub none-behind : (i : ℕ) → length (dataOf (cut .container)) ≤ i → lists cut i ≡ false
+  -- then exactly the gap is listed, from that end up to p, beside what the cut left of the list
+  pub gap : (i : ℕ) → lists last i ≡ (lists cut i || within (length (dataOf (cut .container))) p i)
+
 -- Of every history from a fresh container and a list of zeros (D16).
 pub record GapListed (b node enabler : List ℕ) : Type 0 where
   -- a write past the end adds exactly the gap, from the size before it up to its position
@@ -61,14 +69,11 @@ pub record GapListed (b node enabler : List ℕ) : Type 0 where
       lists (after (h ++ (y ∷ [])) (freshSlot b node enabler)) i
       ≡ (lists (after h (freshSlot b node enabler)) i
       || within (length (dataOf (after h (freshSlot b node enabler) .container))) p i)
-  -- so after an accepted cut to m, which leaves at most m bytes, and with nothing accepted between, exactly the gap is
-  -- listed of all that stands at or behind the end that the cut left, whatever was listed before it
+  -- so after an accepted cut and a later write past the end, with nothing accepted between, exactly the gap is listed
   pub exactly : createOutcome b node enabler ≡ 0 → (h : List Sent) (x : Sent) (m : ℕ) (between : List Sent) (y : Sent)
       (p : ℕ) → WritesThrough (((h ++ (x ∷ [])) ++ between) ++ (y ∷ [])) →
       CutsIn x (after h (freshSlot b node enabler)) m →
       Quiet between (after (h ++ (x ∷ [])) (freshSlot b node enabler)) →
       WritesPast y (after ((h ++ (x ∷ [])) ++ between) (freshSlot b node enabler)) p →
-      (length (dataOf (after (h ++ (x ∷ [])) (freshSlot b node enabler) .container)) ≤ m)
-      × ((i : ℕ) → length (dataOf (after (h ++ (x ∷ [])) (freshSlot b node enabler) .container)) ≤ i →
-      lists (after (((h ++ (x ∷ [])) ++ between) ++ (y ∷ [])) (freshSlot b node enabler)) i
-      ≡ within (length (dataOf (after (h ++ (x ∷ [])) (freshSlot b node enabler) .container))) p i)
+      GapAlone m p (after (h ++ (x ∷ [])) (freshSlot b node enabler))
+      (after (((h ++ (x ∷ [])) ++ between) ++ (y ∷ [])) (freshSlot b node enabler))

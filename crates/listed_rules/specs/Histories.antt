@@ -20,14 +20,14 @@ use Rattle.stretches.specs.Unwritten.{unwritten, Unwritten}
 use Rattle.listed_rules.specs.Runs.{Slot, Sent, hearsIn, leavesIn, namesIn, WritesThrough, callsOf, SlotParts, ruleHearsIn}
 use Rattle.listed_rules.specs.Runs.{ruleLeavesIn}
 
--- 'The list is not good' (16) is heard nowhere, nor 'no room' (11) or 'too many rows' (13).
+-- Whether 'the list is not good' (16) is heard; whether 'no room' (11) or 'too many rows' (13) is.
 unfoldable pub badList : Heard → Bool
 badList a = eqb (a .answer .number) 16
 
 unfoldable pub noPlace : Heard → Bool
 noPlace a = cond (eqb (a .answer .number) 11) true (eqb (a .answer .number) 13)
 
--- After a history on a slot with empty data and no stretches, where os are the accepted writes and cuts (D14).
+-- After a history on a slot with empty data and no stretches (D14).
 pub record ListTold (h : List Sent) (s : Slot) : Type 0 where
   -- a position is listed exactly when it is data and no accepted write has covered it since the last accepted cut at or
   -- below it

@@ -68,8 +68,8 @@ fn follow(q: &[u8], t: Parted, size: usize, rows: &mut [u8], n: usize) -> usize
     written.count
 }
 
-// Writes the list anew, unless it would have too many rows; whether it did.
-pub fn write_list(l: &mut [u8], q: &[u8], t: Parted, size: usize) -> bool
+// Moves the list by the writes and the cut, unless it would have too many rows; whether it did.
+pub(crate) fn write_list(l: &mut [u8], q: &[u8], t: Parted, size: usize) -> bool
     requires { ⌜ PartedIn (now q) t
         × ((size ≤ limit) × ((length (now l) ≡ listLength) × Storable (stretchesOf (now l)) size)) ⌝ }
     ensures { λ r. ⌜ r ≡ leb (length

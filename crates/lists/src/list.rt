@@ -17,7 +17,7 @@ pub const LIST_LENGTH: usize = 2052;
 
 pub const ROW_LIMIT: usize = 256;
 
-const ROWS_AT: usize = 4;
+pub const ROWS_AT: usize = 4;
 
 // Whether a row is not empty, starts at `low` or above, ends inside the data, and names only zeros.
 fn row_ok(row: Span, low: usize, d: &[u8]) -> bool

@@ -66,7 +66,7 @@ fn choose(first: Span, other: Span) -> Span
 // The positions from a up to e are taken out of n rows, in one pass; how many rows there are then. A row is split in two
 // at most once, so that each turn puts one row at most, where one has been read: what is left of the row above e is
 // held back for the next turn.
-pub fn take_out(t: &mut [u8], n: usize, a: usize, e: usize) -> usize
+fn take_out(t: &mut [u8], n: usize, a: usize, e: usize) -> usize
     requires { ⌜ Ordered (now t) n × ((n < tableRows) × (a ≤ e)) ⌝ }
     ensures { λ r. ⌜ Holds (now (t .exit)) r (below a (rowsFrom n 0 (now (t .entry))) ++ above e (rowsFrom n 0 (now (t .entry)))) ⌝ }
 {
@@ -90,7 +90,7 @@ pub fn take_out(t: &mut [u8], n: usize, a: usize, e: usize) -> usize
 }
 
 // The gap from a size up to a position behind it is added; a row that ends at the size is made longer.
-pub fn add_gap(t: &mut [u8], n: usize, size: usize, at: usize) -> usize
+fn add_gap(t: &mut [u8], n: usize, size: usize, at: usize) -> usize
     requires { ⌜ Ready (now t) n size × ((n < tableRows) × ((size < at) × Fits32 at)) ⌝ }
     ensures { λ r. ⌜ Holds (now (t .exit)) r (joined size at (rowsFrom n 0 (now (t .entry)))) ⌝ }
 {

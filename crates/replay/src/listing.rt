@@ -5,12 +5,10 @@ use crate::printing::text;
 use libc::STDOUT_FILENO;
 use lists::list::LIST_LENGTH;
 use lists::list::ROW_LIMIT;
+use lists::list::ROWS_AT;
 use lists::rows::Span;
 use lists::rows::row_at;
 use octets::choices::lesser;
-
-// Where the rows begin.
-const ROWS_AT: usize = 4;
 
 // More runs are shortened.
 const MOST_RUNS: usize = 16;

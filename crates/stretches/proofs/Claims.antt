@@ -2,21 +2,22 @@
 use Prim.Native.Nat.{ℕ, zero, suc, _+_, _*_, _-_, _≤_, _<_}
 use mathlib.Core.Path.{_≡_, refl, sym, ap, _∙_}
 use mathlib.Core.Bool.{Bool, true, false, not, _&&_}
-use mathlib.Core.List.{List, [], _∷_}
+use mathlib.Core.List.{List, [], _∷_, map}
 use native.Mathlib.Omega.{arith}
 use lib.ListN.{length, getD, drop, replicate}
 use lib.Seq.{getD-drop}
 use lib.Dec.{ltb}
 use borrow.Author.Tests.{ltb-true, ltb-false}
-use Rattle.octets.specs.Facts.{Octets, Fits32}
+use Rattle.octets.specs.Facts.{Octets, Each, Fits32}
 use Rattle.octets.specs.Numbers.{digits}
 use Rattle.octets.specs.Strings.{allZero, join}
 use Rattle.octets.proofs.ListLaws.{at-rep}
-use Rattle.octets.proofs.StringLaws.{rest-field, allZero-replicate}
+use Rattle.octets.proofs.NumberLaws.{octets-digits}
+use Rattle.octets.proofs.StringLaws.{rest-field, allZero-replicate, octets-append, octets-join}
 use Rattle.rules.specs.Changes.{Change, sizeAfter}
 use Rattle.stretches.specs.Stretches.{Stretch, listed, stretchesAfter}
 use Rattle.stretches.specs.List.{listLength, rowLimit, rowsAt, rowSize, rowCount, rowsFrom, stretchesOf, listBytes}
-use Rattle.stretches.specs.List.{freshList, listOk}
+use Rattle.stretches.specs.List.{rowBytes, freshList, listOk}
 use Rattle.stretches.specs.Claims.{Rising, GoodList, Judged, Storable, ListRoundTrip, Tracks}
 use Rattle.stretches.proofs.ShapeLaws.{never, listed-high, rising-after, length-after, same-stretches}
 use Rattle.stretches.proofs.UnwrittenLaws.{listed-unwritten}
@@ -92,6 +93,21 @@ pub zero-list : listBytes [] ≡ freshList
 unfolding listBytes digits join freshList
 zero-list = refl
 
+each-octets : (rs : List Stretch) → Each Octets (map rowBytes rs)
+unfolding rowBytes
+each-octets [] = tt
+each-octets (r ∷ rs) = (
+  octets-append (digits 4 (r .start)) (digits 4 (r .count)) (octets-digits 4 (r .start)) (octets-digits 4 (r .count)),
+  each-octets rs,
+)
+
+list-octets : (rs : List Stretch) → Octets (listBytes rs)
+unfolding listBytes
+list-octets rs =
+    octets-append (digits 4 (length rs)) _ (octets-digits 4 (length rs))
+    (octets-append (join (map rowBytes rs)) _ (octets-join (map rowBytes rs) (each-octets rs))
+    (λ i. omega (arith, at-rep (listLength - (rowsAt + rowSize * length rs)) i)))
+
 -- THE LIST AND ITS PARTS, BOTH WAYS
 pub list-round-trip : (l d : List ℕ) (rs : List Stretch) (n : ℕ) → ListRoundTrip l d rs n
 list-round-trip l d rs n = record {
@@ -99,6 +115,7 @@ list-round-trip l d rs n = record {
   parts-hold = parts-hold l d;
   parts-back = storable-small rs n;
   bytes-good = bytes-good rs d;
+  octets = list-octets rs;
   determined = λ other r o e. same-stretches 0 rs other n n r o e;
   fresh = zero-list;
 }

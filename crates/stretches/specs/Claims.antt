@@ -52,6 +52,8 @@ pub record ListRoundTrip (l d : List ℕ) (rs : List Stretch) (n : ℕ) : Type 0
   -- stretches that can be stored come back unchanged, from a list that is good beside any data that they name zeros of
   pub parts-back : Storable rs n → stretchesOf (listBytes rs) ≡ rs
   pub bytes-good : Storable rs (length d) → ((i : ℕ) → listed rs i ≡ true → getD d i 0 ≡ 0) → listOk (listBytes rs) d ≡ true
+  -- whatever is written out is bytes
+  pub octets : Octets (listBytes rs)
   -- stretches in order are determined by what they name
   pub determined : (other : List Stretch) → Rising 0 rs n → Rising 0 other n →
       ((i : ℕ) → listed rs i ≡ listed other i) → rs ≡ other
