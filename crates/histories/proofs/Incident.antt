@@ -29,6 +29,7 @@ use Rattle.histories.specs.Accepted.{took, accepted}
 use Rattle.histories.specs.Incident.{Cuts, laterChanges, Untouched, middle, end, Forgets, Appends, ForgetsAppend}
 use Rattle.histories.specs.Incident.{Incident, IncidentInUse}
 use Rattle.histories.proofs.Demand3.{size-final, each-final}
+use Rattle.histories.proofs.Sides.{final-append}
 use Rattle.octets.proofs.ListLaws.{lastSaid-append, newer-assoc}
 
 -- ---- what was said before a cut is forgotten
@@ -52,7 +53,7 @@ unfolding sizeAfter
 sizeAfter-append [] b n = refl
 sizeAfter-append (o ∷ a) b n = sizeAfter-append a b (sizeBy o n)
 
-size-cut : (a : List Change) (m n : ℕ) → sizeAfter (a ++ (cutAt m ∷ [])) n ≤ m
+pub size-cut : (a : List Change) (m n : ℕ) → sizeAfter (a ++ (cutAt m ∷ [])) n ≤ m
 unfolding sizeAfter sizeBy
 size-cut a m n = rw (sizeAfter-append a (cutAt m ∷ []) n) (omega arith)
 
@@ -71,7 +72,7 @@ accepted-append (x ∷ h) k c n =
     ∙ rw (sizeAfter-append t a n) (sym (append-assoc t a _))
 
 -- ---- the changes up to and with a cut
-writes-then : (ws : List Placed) (os : List Change) → writeChanges ws os ≡ writeChanges ws [] ++ os
+pub writes-then : (ws : List Placed) (os : List Change) → writeChanges ws os ≡ writeChanges ws [] ++ os
 unfolding writeChanges
 writes-then [] os = refl
 writes-then (w ∷ ws) os = ap (λ (l : List Change). wrote (w .at) (w .bytes) ∷ l) (writes-then ws os)
@@ -155,11 +156,6 @@ module _ (p : Parts) (v : Valid p) (before : List Call) (x : Call) (after : List
   }
 
 -- ---- an append behind all that
-final-append : (h k : List Call) (c : List ℕ) → final leaves (h ++ k) c ≡ final leaves k (final leaves h c)
-unfolding final
-final-append [] k c = refl
-final-append (x ∷ h) k c = final-append h k (leaves x c)
-
 -- what an append leaves
 append-leaves : (y : Call) (c bs : List ℕ) → Appends y c bs → dataOf (leaves y c) ≡ dataOf c ++ bs
 unfolding leaves hears
@@ -177,7 +173,7 @@ module _ (p : Parts) (v : Valid p) (before : List Call) (x : Call) (after : List
   unfolding final
   behind =
       ap (λ (l : List Call). dataOf (final leaves l (encode p))) (sym (append-assoc h after (y ∷ [])))
-      ∙ ap dataOf (final-append (h ++ after) (y ∷ []) (encode p))
+      ∙ ap dataOf (final-append leaves (h ++ after) (y ∷ []) (encode p))
       ∙ append-leaves y (end (encode p) before x after) bs adds
 
   at-cut : after ≡ [] → length (dataOf (middle (encode p) before x)) ≡ m →

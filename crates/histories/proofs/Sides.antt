@@ -2,8 +2,15 @@
 -- Over any calls, answers and states. Assumes nothing.
 use mathlib.Core.Path.{_≡_, refl, sym, ap, ap₂, _∙_}
 use mathlib.Core.Bool.{Bool, true, false}
-use mathlib.Core.List.{List, [], _∷_}
+use mathlib.Core.List.{List, [], _∷_, _++_}
 use Rattle.histories.specs.Runs.{answers, final, only, beside, Never}
+
+-- one list of calls behind another
+pub final-append : {R S : Type 0} (leave : R → S → S) (h k : List R) (s : S) →
+    final leave (h ++ k) s ≡ final leave k (final leave h s)
+unfolding final
+final-append leave [] k s = refl
+final-append leave (x ∷ h) k s = final-append leave h k (leave x s)
 
 module _ {R A S P : Type 0} (mine : R → Bool) (bad : A → Bool) (ans : R → S → A) (next : R → S → S) (view : S
     → P) (pans : R → P → A) (pnext : R → P → P) where

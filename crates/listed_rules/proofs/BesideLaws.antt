@@ -1,75 +1,25 @@
 -- The outcome beside a list, split by rows: five ways to end, and what each does. Assumes nothing.
 use mathlib.Core.Path.{_≡_, refl, _∙_}
-use mathlib.Core.Bool.{Bool, true, false, cond, false≢true}
-use mathlib.Core.List.{List, [], _∷_, _++_}
-use mathlib.Core.Option.{Option, none, some}
+use mathlib.Core.Bool.{Bool, true, false, cond}
+use mathlib.Core.List.{List, _++_}
 use Prim.Native.Nat.{ℕ, _≤_, _<_}
-use native.Mathlib.Omega.{arith}
 use lib.ListN.{length}
-use lib.Dec.{eqb, leb, ltb}
-use borrow.Author.Tests.{eqb-true, eqb-false, ne-eqb, leb-true, ltb-true, ltb-false}
-use Rattle.octets.specs.Facts.{Among}
-use Rattle.octets.specs.Lists.{anyOf, every}
+use lib.Dec.{eqb, ltb}
+use borrow.Author.Tests.{eqb-true, eqb-false, ne-eqb, ltb-true, ltb-false}
 use Rattle.octets.specs.Rows.{firstRow}
-use Rattle.octets.proofs.ListLaws.{both, each-append}
-use Rattle.octets.proofs.RowLaws.{Numbered, rows-append}
+use Rattle.octets.proofs.RowLaws.{rows-append}
 use Rattle.format.specs.Container.{wellFormed}
 use Rattle.format.specs.Layout.{dataOf}
-use Rattle.format.specs.Parts.{Parts, partsOf}
-use Rattle.rules.specs.Requests.{Request, testWrite, add, renew, cancel, read, kindOf, requestOf}
-use Rattle.rules.specs.Outcomes.{rows, roomRows, requestRows, outcome, replies, answered, containerAfter, replyAfter}
-use Rattle.rules.specs.Claims.{numbersFor}
-use Rattle.rules.proofs.Kept.{rows-numbered}
-use Rattle.rules.proofs.NumberLaws.{outcome-among}
+use Rattle.format.specs.Parts.{partsOf}
+use Rattle.rules.specs.Requests.{requestOf}
+use Rattle.rules.specs.Outcomes.{rows, requestRows, outcome, replies, answered, containerAfter, replyAfter}
+use Rattle.rules.proofs.Kept.{request-numbered}
 use Rattle.rules.proofs.OutcomeLaws.{formed-length, outcome-formed, answer-number}
 use Rattle.stretches.specs.Stretches.{Stretch}
 use Rattle.stretches.specs.List.{rowLimit, stretchesOf, listOk}
 use Rattle.listed_rules.specs.Outcomes.{nextStretches, manyRows, outcomeBeside, answeredBeside, containerBeside}
 use Rattle.listed_rules.specs.Outcomes.{listAfter, listTo, replyBeside}
 use Rattle.listed_rules.specs.Claims.{Own}
-
--- ---- the container's own numbers: every row has one, and none is above 11
-rooms-numbered : (p : Parts) (r : Request) → Numbered (roomRows p r)
-unfolding roomRows
-rooms-numbered p (testWrite k ts ws cut) = (omega arith, tt)
-rooms-numbered p (add r) = (omega arith, tt)
-rooms-numbered p (renew t x) = tt
-rooms-numbered p (cancel t) = tt
-rooms-numbered p (read rs) = tt
-
-pub request-numbered : (p : Parts) (r : Option Request) (n : ℕ) → Numbered (requestRows p r n)
-unfolding requestRows
-request-numbered p none n = (omega arith, tt)
-request-numbered p (some r) n =
-    each-append (λ x. 0 < x .number) (rows p r n) (roomRows p r) (rows-numbered p r n) (rooms-numbered p r)
-
-among-most : (x m : ℕ) (ns : List ℕ) → every (λ n. leb n m) ns ≡ true → Among x ns → x ≤ m
-unfolding anyOf every
-among-most x m [] h e = absurd (false≢true e)
-among-most x m (n ∷ ns) h e =
-    let k = both (leb n m) (every (λ n. leb n m) ns) h in
-    go (eqb x n) refl e (leb-true n m (k .0)) (among-most x m ns (k .1))
-  where
-    go : (b : Bool) → eqb x n ≡ b → cond b true (anyOf (eqb x) ns) ≡ true → n ≤ m →
-        (Among x ns → x ≤ m) → x ≤ m
-    go true p e k ih = omega (arith, eqb-true x n p)
-    go false p e k ih = ih e
-
-every-choice : (test : ℕ → Bool) (b : Bool) (xs ys : List ℕ) → every test xs ≡ true → every test ys ≡ true →
-    every test (cond b xs ys) ≡ true
-every-choice test true xs ys h k = h
-every-choice test false xs ys h k = k
-
-numbers-most : (k : ℕ) → every (λ n. leb n 11) (numbersFor k) ≡ true
-unfolding numbersFor every
-numbers-most k =
-    let small = every-choice (λ n. leb n 11) in
-    small (eqb k 1) _ _ refl
-    (small (eqb k 2) _ _ refl
-    (small (eqb k 3) _ _ refl (small (eqb k 4) _ _ refl (small (eqb k 5) _ _ refl refl))))
-
-pub own-most : (c q : List ℕ) (n : ℕ) → outcome c q n ≤ 11
-own-most c q n = among-most (outcome c q n) 11 (numbersFor (kindOf q)) (numbers-most (kindOf q)) (outcome-among c q n)
 
 -- ---- the number by rows
 -- the stretches that would result

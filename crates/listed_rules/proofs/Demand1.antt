@@ -27,7 +27,8 @@ use Rattle.stretches.proofs.ShapeLaws.{never}
 use Rattle.stretches.proofs.Claims.{good-list, list-good}
 use Rattle.listed_rules.specs.Outcomes.{outcomeBeside, answeredBeside, containerBeside, listAfter, replyBeside}
 use Rattle.listed_rules.specs.Claims.{numbersBeside, Own, Demand1Beside}
-use Rattle.listed_rules.proofs.BesideLaws.{own-most, nextOf, besideBy, beside-formed, Ends, malformed, badList}
+use Rattle.rules.proofs.NumberLaws.{own-most}
+use Rattle.listed_rules.proofs.BesideLaws.{nextOf, besideBy, beside-formed, Ends, malformed, badList}
 use Rattle.listed_rules.proofs.BesideLaws.{refused, tooMany, done, ends, beside-number, own-by, list-kept}
 use Rattle.listed_rules.proofs.BesideLaws.{list-moved, container-kept, reply-kept}
 use Rattle.listed_rules.proofs.GoodLaws.{bytes-fit, other-list, few-others, good-after}

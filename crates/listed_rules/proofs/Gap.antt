@@ -1,5 +1,5 @@
 -- The incident, and the list: a write past the end lists exactly the gap. Assumes nothing.
-use mathlib.Core.Path.{_≡_, refl, sym, ap, _∙_}
+use mathlib.Core.Path.{_≡_, sym, ap, _∙_}
 use mathlib.Core.Bool.{false, not, _&&_, _||_, and-true, and-false}
 use mathlib.Core.List.{List, [], _∷_, _++_}
 use Prim.Native.Nat.{ℕ, zero, suc, _≤_, _<_}
@@ -12,10 +12,12 @@ use Rattle.format.specs.Layout.{dataOf}
 use Rattle.format.specs.Parts.{fresh}
 use Rattle.format.proofs.RoundTrip.{data-encode}
 use Rattle.rules.specs.Testing.{position}
-use Rattle.rules.specs.Writing.{Placed, placed, grow}
-use Rattle.rules.specs.Changes.{within, covers, wrote, cutAt, sizeBy, sizeAfter, changesOf, cutChange, writeChanges}
+use Rattle.rules.specs.Writing.{Placed, placed}
+use Rattle.rules.specs.Changes.{within, covers, wrote, cutAt, sizeAfter, changesOf, cutChange, writeChanges}
 use Rattle.rules.proofs.WriteLaws.{Spot, low, mid, high, spot, covers-low, covers-mid, covers-high}
 use Rattle.rules.proofs.ChangeLaws.{performAll}
+use Rattle.histories.proofs.Sides.{final-append}
+use Rattle.histories.proofs.Incident.{writes-then, size-cut}
 use Rattle.histories.specs.Runs.{Heard, final}
 use Rattle.histories.specs.Accepted.{took}
 use Rattle.stretches.specs.Stretches.{Stretch, listed, writtenOver, stretchesBy, stretchesAfter}
@@ -31,12 +33,6 @@ use Rattle.listed_rules.proofs.RunLaws.{Followed, followed, ruleChanges
 use Rattle.listed_rules.proofs.Demand3.{fresh-sound, fresh-slot}
 
 -- ---- a history in two parts
-final-append : {R S : Type 0} (leave : R → S → S) (h k : List R) (s : S) →
-    final leave (h ++ k) s ≡ final leave k (final leave h s)
-unfolding final
-final-append leave [] k s = refl
-final-append leave (x ∷ h) k s = final-append leave h k (leave x s)
-
 each-split : {A : Type 0} (P : A → Type 0) (a b : List A) → Each P (a ++ b) → Each P a × Each P b
 each-split P [] b h = (tt, h)
 each-split P (x ∷ a) b h = let k = each-split P a b (h .1) in ((h .0, k .0), k .1)
@@ -55,10 +51,8 @@ listed-past n p (suc k) rs i r h g = listed-written n p k rs i ∙ go (spot p (s
     go (high f) = rw (covers-high p (suc k) i f) (simp and-true)
 
 -- ---- the size after a cut
-size-cut : (ws : List Placed) (m n : ℕ) → sizeAfter (writeChanges ws (cutAt m ∷ [])) n ≤ m
-unfolding writeChanges sizeAfter sizeBy
-size-cut [] m n = omega arith
-size-cut (w ∷ ws) m n = size-cut ws m (grow n (w .at) (length (w .bytes)))
+cut-last : (ws : List Placed) (m n : ℕ) → sizeAfter (writeChanges ws (cutAt m ∷ [])) n ≤ m
+cut-last ws m n = rw (writes-then ws (cutAt m ∷ [])) (size-cut (writeChanges ws []) m n)
 
 -- ---- one call on a sound slot
 module _ (s : SlotParts) (v : Sound s) where
@@ -104,7 +98,7 @@ module _ (s : SlotParts) (v : Sound s) where
   took-cut x m q = rw (heard-done x (q .done), q .asks)
 
   cut-short : (x : Sent) (m : ℕ) → CutsIn x (slotOf s) m → length (ruleLeavesIn x s .parts .bytes) ≤ m
-  cut-short x m q = rw (step-size x s, took-cut x m q) (size-cut (placed (q .writes) n) m n)
+  cut-short x m q = rw (step-size x s, took-cut x m q) (cut-last (placed (q .writes) n) m n)
 
 -- ---- histories on a sound slot
 quiet-size : (s : SlotParts) → Sound s → (h : List Sent) → WritesThrough h → Quiet h (slotOf s) →

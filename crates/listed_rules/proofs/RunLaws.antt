@@ -22,7 +22,7 @@ use Rattle.stretches.proofs.Claims.{good-list}
 use Rattle.listed_rules.specs.Runs.{Slot, Sent, hearsIn, leavesIn, WritesThrough, callsOf, SlotParts, ruleHearsIn}
 use Rattle.listed_rules.specs.Runs.{ruleLeavesIn}
 use Rattle.listed_rules.specs.Histories.{badList}
-use Rattle.listed_rules.proofs.BesideLaws.{own-most}
+use Rattle.rules.proofs.NumberLaws.{own-most}
 use Rattle.listed_rules.proofs.Demand1.{demand-1-beside}
 use Rattle.listed_rules.proofs.Steps.{tookIn, step-data, step-stretches, step-size, Sound, sound-left, slotOf}
 use Rattle.listed_rules.proofs.Steps.{slot-ok, hears-slot, leaves-slot}

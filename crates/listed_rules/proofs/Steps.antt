@@ -35,7 +35,7 @@ use Rattle.listed_rules.specs.Outcomes.{nextStretches, manyRows, outcome
 use Rattle.listed_rules.specs.Outcomes.{containerBeside, listAfter, replyBeside}
 use Rattle.listed_rules.specs.Runs.{Slot, Sent, hearsIn, leavesIn, SlotParts, ruleOutcomeBeside, ruleHearsIn}
 use Rattle.listed_rules.specs.Runs.{ruleLeavesIn}
-use Rattle.listed_rules.proofs.BesideLaws.{request-numbered}
+use Rattle.rules.proofs.Kept.{request-numbered}
 use Rattle.listed_rules.proofs.GoodLaws.{zeros-after, bytes-fit, no-changes}
 
 -- A call that is no test-and-write past the list.

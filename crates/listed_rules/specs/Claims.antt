@@ -1,7 +1,7 @@
 -- What is claimed of one call beside a list (demands 1 and 2; docs/RULES.md, D11, D12). Proved in proofs/.
 use Prim.Native.Nat.{ℕ, _≤_, _<_}
 use mathlib.Core.Path.{_≡_}
-use mathlib.Core.Bool.{true, false, cond}
+use mathlib.Core.Bool.{true, cond}
 use mathlib.Core.List.{List, [], _∷_}
 use mathlib.Core.Logic.{_↔_}
 use lib.ListN.{length, take, drop}
@@ -17,7 +17,7 @@ use Rattle.rules.specs.Changes.{Change, cutChange, writeChanges}
 use Rattle.rules.specs.Outcomes.{outcome, noNode, answered, containerAfter, replyAfter}
 use Rattle.rules.specs.Claims.{numbersFor, Accepts, Writes, SamePublic}
 use Rattle.stretches.specs.Stretches.{stretchesAfter}
-use Rattle.stretches.specs.List.{rowLimit, stretchesOf, listBytes, listOk}
+use Rattle.stretches.specs.List.{rowLimit, stretchesOf, listBytes}
 use Rattle.stretches.specs.Claims.{GoodList}
 use Rattle.listed_rules.specs.Outcomes.{nextStretches, answeredBeside, containerBeside, listAfter, replyBeside}
 

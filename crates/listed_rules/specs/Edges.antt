@@ -1,6 +1,6 @@
 -- Numbers at the edges of the list (docs/RULES.md, P58 to P63), as tables: which lists are refused, what writes and cuts
 -- make of a list, and when it has too many rows. Proved in proofs/EdgeTable.antt.
-use Prim.Native.Nat.{ℕ, zero, suc, _+_, _-_}
+use Prim.Native.Nat.{ℕ, zero, suc, _+_}
 use mathlib.Core.Path.{_≡_}
 use mathlib.Core.List.{List, [], _∷_, _++_, map}
 use lib.ListN.{length, take, replicate}

@@ -8,7 +8,7 @@ use lib.ListN.{length}
 use lib.Dec.{eqb}
 use Rattle.format.specs.Container.{wellFormed}
 use Rattle.format.specs.Layout.{dataOf, leasesOf}
-use Rattle.format.specs.Parts.{Parts, encode, fresh}
+use Rattle.format.specs.Parts.{encode, fresh}
 use Rattle.rules.specs.Outcomes.{createOutcome, createdContainer}
 use Rattle.histories.specs.Runs.{Heard, answers, final, isLease, isData, beside, Never, Woven}
 use Rattle.histories.specs.Accepted.{accepted}

@@ -19,7 +19,7 @@ use Rattle.format.specs.declared.layout.Frame.{Frame}
 use Rattle.format.proofs.KnownLaws.{data-framed, known-room}
 use Rattle.rules.specs.Requests.{Request, testWrite, add, renew, cancel, read, requestOf, byKind, kindOf}
 use Rattle.rules.specs.Changes.{changesOf}
-use Rattle.rules.specs.Outcomes.{replies, answerOf, noNode, answerTo, outcome, answered, containerAfter, replyAfter}
+use Rattle.rules.specs.Outcomes.{replies, answerOf, noNode, outcome, answered, containerAfter, replyAfter}
 use Rattle.rules.specs.declared.Answer.{Answer}
 use Rattle.rules.proofs.OutcomeLaws.{answered-number}
 use Rattle.rules.proofs.RefusalLaws.{Refused, Silent, silent-answer}

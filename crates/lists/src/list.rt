@@ -5,7 +5,7 @@ ghost use Prim.Native.Nat.{_+_, _*_, _≤_};
 ghost use lib.ListN.{length};
 ghost use Rattle.octets.specs.Lists.{every};
 ghost use Rattle.stretches.specs.Stretches.{rising};
-ghost use Rattle.stretches.specs.List.{listLength, rowLimit, rowsAt, rowSize, rowCount, rowsFrom, stretchesOf};
+ghost use Rattle.stretches.specs.List.{listLength, rowLimit, rowSize, rowCount, rowsFrom, stretchesOf};
 ghost use Rattle.stretches.specs.List.{listBytes, zeroIn, listOk};
 ghost use Rattle.lists.specs.Tables.{tableSize, spanOk};
 use crate::rows::ROW_SIZE;

@@ -23,7 +23,7 @@ use Rattle.format.proofs.KnownLaws.{leases-extras}
 use Rattle.rules.specs.Requests.{Request, testWrite, add, renew, cancel, read}
 use Rattle.rules.specs.Leasing.{renewedBy, cancelledBy, vacant, firstOf, later, extended, trim, dropTail, added}
 use Rattle.rules.specs.Leasing.{renewed, cancelled, knows, present, placedIn}
-use Rattle.rules.specs.Outcomes.{withBytes, withLeases, after, rows, roomRows, admitRows, findRows}
+use Rattle.rules.specs.Outcomes.{withBytes, withLeases, after, rows, roomRows, admitRows, findRows, requestRows}
 use Rattle.octets.specs.Rows.{firstRow}
 use Rattle.rules.proofs.LeaseLaws.{Found, first-found, full-present, length-later}
 use Rattle.rules.proofs.LeaseLaws.{held-later, held-ok, last-drop-set, last-snoc, last-trim, each-trim}
@@ -38,6 +38,20 @@ rows-numbered p (add r) n = (omega arith, tt)
 rows-numbered p (renew t x) n = (omega arith, tt)
 rows-numbered p (cancel t) n = (omega arith, tt)
 rows-numbered p (read rs) n = (omega arith, (omega arith, tt))
+
+rooms-numbered : (p : Parts) (r : Request) → Numbered (roomRows p r)
+unfolding roomRows
+rooms-numbered p (testWrite k ts ws cut) = (omega arith, tt)
+rooms-numbered p (add r) = (omega arith, tt)
+rooms-numbered p (renew t x) = tt
+rooms-numbered p (cancel t) = tt
+rooms-numbered p (read rs) = tt
+
+pub request-numbered : (p : Parts) (r : Option Request) (n : ℕ) → Numbered (requestRows p r n)
+unfolding requestRows
+request-numbered p none n = (omega arith, tt)
+request-numbered p (some r) n =
+    each-append (λ x. 0 < x .number) (rows p r n) (roomRows p r) (rows-numbered p r n) (rooms-numbered p r)
 
 -- ---- parts with other data, and with other lease places
 pub count-with : (p : Parts) (d : List ℕ) → countIn (withBytes p d) ≡ movedCount (countIn p) (length d)

@@ -3,11 +3,13 @@ use mathlib.Core.Path.{_≡_, refl, sym, _∙_}
 use mathlib.Core.Bool.{Bool, true, false, cond, not, false≢true}
 use mathlib.Core.List.{List, [], _∷_}
 use mathlib.Core.Option.{none}
-use Prim.Native.Nat.{ℕ}
+use Prim.Native.Nat.{ℕ, _≤_}
 use native.Mathlib.Omega.{arith}
-use lib.Dec.{eqb}
+use lib.Dec.{eqb, leb}
+use borrow.Author.Tests.{eqb-true, leb-true}
 use Rattle.format.specs.Container.{lengthAllowed, wellFormed}
-use Rattle.octets.specs.Lists.{anyOf}
+use Rattle.octets.specs.Lists.{anyOf, every}
+use Rattle.octets.proofs.ListLaws.{both}
 use Rattle.octets.specs.Facts.{Each, Among}
 use Rattle.rules.specs.Requests.{testWriteOf, requestOf, kindOf}
 use Rattle.octets.specs.Rows.{Row, firstRow}
@@ -84,3 +86,32 @@ create-among c node enabler = firstRow-among (0 ∷ 1 ∷ 3 ∷ 12 ∷ []) _ ref
 pub create-never-six : (c node enabler : List ℕ) → createOutcome c node enabler ≡ 6 → ⊥
 unfolding anyOf
 create-never-six c node enabler e = false≢true (rw e at (create-among c node enabler))
+
+-- ---- no number is above 11
+among-most : (x m : ℕ) (ns : List ℕ) → every (λ n. leb n m) ns ≡ true → Among x ns → x ≤ m
+unfolding anyOf every
+among-most x m [] h e = absurd (false≢true e)
+among-most x m (n ∷ ns) h e =
+    let k = both (leb n m) (every (λ n. leb n m) ns) h in
+    go (eqb x n) refl e (leb-true n m (k .0)) (among-most x m ns (k .1))
+  where
+    go : (b : Bool) → eqb x n ≡ b → cond b true (anyOf (eqb x) ns) ≡ true → n ≤ m →
+        (Among x ns → x ≤ m) → x ≤ m
+    go true p e k ih = omega (arith, eqb-true x n p)
+    go false p e k ih = ih e
+
+every-choice : (test : ℕ → Bool) (b : Bool) (xs ys : List ℕ) → every test xs ≡ true → every test ys ≡ true →
+    every test (cond b xs ys) ≡ true
+every-choice test true xs ys h k = h
+every-choice test false xs ys h k = k
+
+numbers-most : (k : ℕ) → every (λ n. leb n 11) (numbersFor k) ≡ true
+unfolding numbersFor every
+numbers-most k =
+    let small = every-choice (λ n. leb n 11) in
+    small (eqb k 1) _ _ refl
+    (small (eqb k 2) _ _ refl
+    (small (eqb k 3) _ _ refl (small (eqb k 4) _ _ refl (small (eqb k 5) _ _ refl refl))))
+
+pub own-most : (c q : List ℕ) (n : ℕ) → outcome c q n ≤ 11
+own-most c q n = among-most (outcome c q n) 11 (numbersFor (kindOf q)) (numbers-most (kindOf q)) (outcome-among c q n)

@@ -1,19 +1,19 @@
 -- The list as bytes: there and back, and `listOk` as facts. Assumes nothing.
 use mathlib.Core.Path.{_≡_, refl, sym, ap, ap₂, _∙_}
-use mathlib.Core.Bool.{Bool, true, false, cond, not, _&&_, _||_, true≢false, false≢true}
+use mathlib.Core.Bool.{Bool, true, false, _||_, false≢true}
 use mathlib.Core.List.{List, [], _∷_, _++_, map, append-assoc}
 use Prim.Native.Nat.{ℕ, zero, suc, _+_, _*_, _-_, _^_, _≤_, _<_}
 use native.Mathlib.Omega.{arith}
-use lib.ListN.{length, getD, take, drop, replicate, length-append, length-replicate, length-drop}
+use lib.ListN.{length, getD, take, drop, replicate, length-append, length-replicate}
 use lib.Seq.{getD-take, getD-drop}
 use lib.Dec.{eqb, leb, ltb}
-use borrow.Author.Tests.{ltb-true, ltb-false, leb-true, leb-false, lt-ltb, le-ltb, le-leb, lt-leb, eqb-true, eq-eqb}
+use borrow.Author.Tests.{ltb-true, ltb-false, leb-true, le-leb, eqb-true, eq-eqb}
 use Rattle.octets.specs.Numbers.{number, numberAt, digits}
 use Rattle.octets.specs.Strings.{allZero, join}
-use Rattle.octets.specs.Facts.{Octets, Each, Fits32}
+use Rattle.octets.specs.Facts.{Octets, Each}
 use Rattle.octets.specs.Lists.{every}
 use Rattle.octets.proofs.NumberLaws.{length-digits, number-digits, digits-at}
-use Rattle.octets.proofs.StringLaws.{zeros-are, allZero-replicate, rest-field}
+use Rattle.octets.proofs.StringLaws.{zeros-are, rest-field}
 use Rattle.octets.proofs.ListLaws.{both, field-then, field-back, at-rep, at-take-past}
 use Rattle.rules.specs.Changes.{covers}
 use Rattle.rules.proofs.WriteLaws.{covers-mid}

@@ -1,10 +1,10 @@
 -- What is claimed of lists. Assumes nothing.
-use Prim.Native.Nat.{ℕ, zero, suc, _+_, _*_, _-_, _≤_, _<_}
+use Prim.Native.Nat.{ℕ, zero, _+_, _*_, _-_, _≤_, _<_}
 use mathlib.Core.Path.{_≡_, refl, sym, ap, _∙_}
-use mathlib.Core.Bool.{Bool, true, false, not, _&&_}
+use mathlib.Core.Bool.{Bool, true, false}
 use mathlib.Core.List.{List, [], _∷_, map}
 use native.Mathlib.Omega.{arith}
-use lib.ListN.{length, getD, drop, replicate}
+use lib.ListN.{length, getD, drop}
 use lib.Seq.{getD-drop}
 use lib.Dec.{ltb}
 use borrow.Author.Tests.{ltb-true, ltb-false}
@@ -14,14 +14,14 @@ use Rattle.octets.specs.Strings.{allZero, join}
 use Rattle.octets.proofs.ListLaws.{at-rep}
 use Rattle.octets.proofs.NumberLaws.{octets-digits}
 use Rattle.octets.proofs.StringLaws.{rest-field, allZero-replicate, octets-append, octets-join}
-use Rattle.rules.specs.Changes.{Change, sizeAfter}
-use Rattle.stretches.specs.Stretches.{Stretch, listed, stretchesAfter}
-use Rattle.stretches.specs.List.{listLength, rowLimit, rowsAt, rowSize, rowCount, rowsFrom, stretchesOf, listBytes}
+use Rattle.rules.specs.Changes.{Change}
+use Rattle.stretches.specs.Stretches.{Stretch, listed}
+use Rattle.stretches.specs.List.{listLength, rowsAt, rowSize, rowCount, stretchesOf, listBytes}
 use Rattle.stretches.specs.List.{rowBytes, freshList, listOk}
 use Rattle.stretches.specs.Claims.{Rising, GoodList, Judged, Storable, ListRoundTrip, Tracks}
 use Rattle.stretches.proofs.ShapeLaws.{never, listed-high, rising-after, length-after, same-stretches}
 use Rattle.stretches.proofs.UnwrittenLaws.{listed-unwritten}
-use Rattle.stretches.proofs.ByteLaws.{Small, rising-small, length-rowsFrom, length-list, count-list, rows-list}
+use Rattle.stretches.proofs.ByteLaws.{rising-small, length-rowsFrom, length-list, count-list, rows-list}
 use Rattle.stretches.proofs.ByteLaws.{rest-list, ListFormed, list-facts, list-true, list-rows, Zeros, all-zero}
 use Rattle.stretches.proofs.ByteLaws.{zeros-true, zeros-facts}
 

@@ -1,15 +1,14 @@
 -- Stretches stay rising, apart and inside the size; how many a write adds; what they name determines them. Assumes
 -- nothing.
-use mathlib.Core.Path.{_≡_, refl, sym, ap, ap₂, _∙_}
-use mathlib.Core.Bool.{Bool, true, false, cond, not, _&&_, _||_, true≢false, false≢true}
+use mathlib.Core.Path.{_≡_, refl, sym, ap₂, _∙_}
+use mathlib.Core.Bool.{Bool, true, false, cond, true≢false}
 use mathlib.Core.List.{List, [], _∷_, _++_}
 use Prim.Native.Nat.{ℕ, zero, suc, _+_, _-_, _≤_, _<_, min, max}
 use native.Mathlib.Omega.{arith}
 use lib.ListN.{length, length-append}
 use lib.Dec.{eqb, leb, ltb}
-use borrow.Author.Tests.{ltb-true, ltb-false, leb-true, leb-false, lt-ltb, le-ltb, le-leb, lt-leb, eqb-true, eqb-false}
+use borrow.Author.Tests.{ltb-true, ltb-false, leb-true, lt-ltb, le-ltb, le-leb, eqb-true, eqb-false}
 use Rattle.rules.specs.Writing.{grow}
-use Rattle.rules.specs.Changes.{covers}
 use Rattle.rules.proofs.WriteLaws.{covers-low, covers-mid, covers-high}
 use Rattle.rules.specs.Changes.{Change, wrote, cutAt, sizeBy, sizeAfter}
 use Rattle.stretches.specs.Stretches.{Stretch, stretch, endOf, listed, rising, between, below, above, joined}
