@@ -9,6 +9,7 @@
 
 use crate::contest::{contest, contest_each, Samples, Side};
 use crate::lengths;
+use crate::listed;
 use crate::work::{self, Player, Slot};
 use beamsatchel_node::ffi::{
     EditionArguments, RawAnswer, RawShare, RawWrittenShare, ShareArguments,
@@ -33,6 +34,26 @@ const LEFT_OUT: &str = "left out, since not every archive takes it";
 const NOW: c_int = 2;
 
 type Apply = unsafe extern "C" fn(*mut u8, usize, *const u8, usize, *mut u8, usize) -> RawAnswer;
+type ApplyListed = unsafe extern "C" fn(
+    *mut u8,
+    usize,
+    *mut u8,
+    usize,
+    *const u8,
+    usize,
+    *mut u8,
+    usize,
+) -> RawAnswer;
+type ReadListed = unsafe extern "C" fn(
+    *const u8,
+    usize,
+    *const u8,
+    usize,
+    *const u8,
+    usize,
+    *mut u8,
+    usize,
+) -> RawAnswer;
 /// An archive of a version before 0.7.0 fills less of the answer, which begins with the number all the same.
 type Check = unsafe extern "C" fn(*const u8, usize) -> RawShare;
 type WriteMdmf = unsafe extern "C" fn(
@@ -99,6 +120,9 @@ struct Library {
     write_sdmf: Option<WriteSdmf>,
     /// One before 0.7.0 has none.
     write_mdmf: Option<WriteMdmf>,
+    /// Nor has one that knows no lists these.
+    apply_listed: Option<ApplyListed>,
+    read_listed: Option<ReadListed>,
 }
 
 impl Library {
@@ -129,6 +153,8 @@ impl Library {
             find(c"beamsatchel_write_sdmf").or_else(|_| find(c"beamsatchel_write_share"));
         let write_sdmf = write_sdmf.ok();
         let write_mdmf = find(c"beamsatchel_write_mdmf").ok();
+        let apply_listed = find(c"beamsatchel_apply_listed").ok();
+        let read_listed = find(c"beamsatchel_read_listed").ok();
         // SAFETY: the types are those of include/beamsatchel.h.
         unsafe {
             Ok(Library {
@@ -137,6 +163,9 @@ impl Library {
                 check_container: transmute::<*mut c_void, Check>(check_container),
                 write_sdmf: write_sdmf.map(|found| transmute::<*mut c_void, WriteSdmf>(found)),
                 write_mdmf: write_mdmf.map(|found| transmute::<*mut c_void, WriteMdmf>(found)),
+                apply_listed: apply_listed
+                    .map(|found| transmute::<*mut c_void, ApplyListed>(found)),
+                read_listed: read_listed.map(|found| transmute::<*mut c_void, ReadListed>(found)),
             })
         }
     }
@@ -156,6 +185,20 @@ impl Library {
         answer.number
     }
 
+    /// The function of this kind that works beside a list; none where the archive knows no lists.
+    fn beside_list(&self, kind: listed::Kind) -> Option<Box<listed::Call<'static>>> {
+        Some(match kind {
+            listed::Kind::Apply => {
+                let apply = self.apply_listed?;
+                Box::new(move |c, l, q, r| apply_listed(apply, (c, l), q, r).number)
+            }
+            listed::Kind::Read => {
+                let read = self.read_listed?;
+                Box::new(move |c, l, q, r| read_listed(read, (c, l), q, r).number)
+            }
+        })
+    }
+
     /// Writes a share; none where there is no writer of its edition.
     fn write(&self, share: &ShareArguments, space: &mut [u8]) -> Option<u32> {
         let written = match share.edition {
@@ -166,6 +209,48 @@ impl Library {
             } => write_mdmf(self.write_mdmf?, share, (segment_size, spare), space),
         };
         Some(written.number)
+    }
+}
+
+fn apply_listed(
+    apply: ApplyListed,
+    (container, list): (&mut [u8], &mut [u8]),
+    request: &[u8],
+    reply: &mut [u8],
+) -> RawAnswer {
+    // SAFETY: pointer and length of each are those of one live slice, and none overlaps another.
+    unsafe {
+        apply(
+            container.as_mut_ptr(),
+            container.len(),
+            list.as_mut_ptr(),
+            list.len(),
+            request.as_ptr(),
+            request.len(),
+            reply.as_mut_ptr(),
+            reply.len(),
+        )
+    }
+}
+
+fn read_listed(
+    read: ReadListed,
+    (container, list): (&[u8], &[u8]),
+    request: &[u8],
+    reply: &mut [u8],
+) -> RawAnswer {
+    // SAFETY: as for `apply_listed`; container and list are only read.
+    unsafe {
+        read(
+            container.as_ptr(),
+            container.len(),
+            list.as_ptr(),
+            list.len(),
+            request.as_ptr(),
+            request.len(),
+            reply.as_mut_ptr(),
+            reply.len(),
+        )
     }
 }
 
@@ -337,6 +422,7 @@ pub fn against_each_other(archives: &[PathBuf]) -> Result<(), String> {
         };
         row_from(&workload.name, &libraries, begin, play);
     }
+    listed_rows(&libraries);
     long_rows(&libraries);
     for (name, share) in work::bare_shares() {
         share_row(name, &libraries, |library| {
@@ -383,6 +469,29 @@ fn row_from(name: &str, libraries: &[Library], begin: impl Fn(&Library), call: i
         .collect();
     let times = contest(&mut sides, |side| begin(&libraries[side]));
     print_row(name, &times);
+}
+
+/// Slots with their lists; where every archive takes them.
+fn listed_rows(libraries: &[Library]) {
+    for row in listed::rows() {
+        let player = RefCell::new(listed::Player::new(&row));
+        let calls = libraries.iter().map(|library| {
+            let call = library.beside_list(row.kind);
+            call.filter(|call| player.borrow_mut().takes(call))
+        });
+        let Some(calls) = calls.collect::<Option<Vec<_>>>() else {
+            println!("lists are left out, since not every archive takes them");
+            return;
+        };
+        let play = |call| player.borrow_mut().play(call);
+        let mut sides: Vec<Side> = calls
+            .iter()
+            .map(|call| Box::new(move || play(call)) as Side)
+            .collect();
+        let times = contest(&mut sides, |side| player.borrow_mut().begin(&calls[side]));
+        player.borrow().assert_done();
+        print_row(&format!("list: {}", row.name), &times);
+    }
 }
 
 /// Long containers, each call on one as it was made; where every archive takes them.

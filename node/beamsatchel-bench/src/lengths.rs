@@ -2,7 +2,7 @@
 //! memory, which tell how fast that is.
 
 use crate::contest::{contest_each, Side};
-use crate::work::Slot;
+use crate::work::{Apply, Slot};
 use beamsatchel_model::fast;
 use beamsatchel_node::ffi;
 use std::cell::RefCell;
@@ -138,7 +138,7 @@ fn print(row: &Row) {
         RefCell::new(made.clone()),
         RefCell::new(vec![0; made.len()]),
     );
-    let apply = |apply: &dyn Fn(&mut [u8], &[u8], &mut [u8]) -> u32| {
+    let apply = |apply: &Apply| {
         let (buffer, reply) = (&mut buffer.borrow_mut(), &mut reply.borrow_mut());
         assert_eq!(black_box(apply)(buffer, black_box(&row.request), reply), 0);
     };

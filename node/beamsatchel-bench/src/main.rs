@@ -1,11 +1,13 @@
 //! The library against plain Rust written for speed (`beamsatchel_model::fast`), which makes every check and
-//! gives the same answers, and in long containers against plain passes over the same memory too; or, where archives of
-//! the library are named, these against each other.
+//! gives the same answers, and in long containers against plain passes over the same memory too; the library beside a
+//! never-written list against itself without one; or, where archives of the library are named, these against each
+//! other.
 //! Run by hand: `cargo run --release --bin beamsatchel-bench [-- BEFORE.a AFTER.a...]`.
 
 mod archives;
 mod contest;
 mod lengths;
+mod listed;
 mod work;
 
 use beamsatchel_model::fast;
@@ -22,6 +24,7 @@ fn main() {
     let done = match &named[..] {
         [] => {
             against_rust();
+            listed::against_no_list();
             lengths::against_rust_and_memory();
             Ok(())
         }

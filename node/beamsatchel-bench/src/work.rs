@@ -18,7 +18,7 @@ const EXTRAS: usize = LEASES as usize - 4;
 /// Different requests of a workload, which come in turn.
 const REQUESTS: usize = 256;
 /// Enough for every reply.
-const REPLY_SPACE: usize = 8192;
+pub const REPLY_SPACE: usize = 8192;
 
 /// A slot with six leases.
 pub struct Slot {
@@ -90,8 +90,13 @@ impl Slot {
     /// Writes at random offsets inside the data, each with a test of the first 41 bytes, as a
     /// Tahoe client's checkstring is.
     pub fn writes(&self, count: usize) -> Vec<Vec<u8>> {
+        self.writes_from(0, count)
+    }
+
+    /// The same behind the first `low` bytes of the data.
+    pub fn writes_from(&self, low: usize, count: usize) -> Vec<Vec<u8>> {
         let body = vec![b'B'; count];
-        self.at_random(count, |offset| {
+        self.at_random(low, count, |offset| {
             checked().write(offset, &body).expect("fits").to_bytes()
         })
     }
@@ -139,9 +144,27 @@ impl Slot {
         vec![grow.expect("fits").to_bytes(), cut.to_bytes()]
     }
 
+    /// A write of `count` bytes behind a gap of as many, and the cut that undoes both. The first one leaves slack, into
+    /// which all later writes go.
+    pub fn gap(&self, count: usize) -> Vec<Vec<u8>> {
+        let past = checked().write((self.size + count) as u32, &vec![b'G'; count]);
+        let cut = checked().cut(self.size as u32);
+        vec![past.expect("fits").to_bytes(), cut.to_bytes()]
+    }
+
+    /// A write behind a gap of twice as many bytes, which makes a stretch longer that ends at the data's end, and one
+    /// into the gap's first half, which splits that stretch where it ended; and the cut that undoes them.
+    pub fn split(&self, count: usize) -> Vec<Vec<u8>> {
+        let body = vec![b'H'; count];
+        let past = checked().write((self.size + 2 * count) as u32, &body);
+        let split = past.expect("fits").write(self.size as u32, &body);
+        let cut = checked().cut(self.size as u32);
+        vec![split.expect("fits").to_bytes(), cut.to_bytes()]
+    }
+
     /// Reads at random offsets inside the data.
     pub fn reads(&self, count: usize) -> Vec<Vec<u8>> {
-        self.at_random(count, |offset| {
+        self.at_random(0, count, |offset| {
             let read = ReadData::new().read(offset, count as u32);
             read.expect("fits").to_bytes()
         })
@@ -169,14 +192,20 @@ impl Slot {
     pub fn false_tests(&self, count: usize) -> Vec<Vec<u8>> {
         let mut specimen = vec![b'A'; count];
         specimen[count - 1] = b'B';
-        self.at_random(count, |offset| {
+        self.at_random(0, count, |offset| {
             let test =
                 TestAndWrite::new(ENABLER).test(offset, count as u32, Opcode::Equal, &specimen);
             test.expect("fits").to_bytes()
         })
     }
 
-    fn at_random(&self, count: usize, request: impl Fn(u32) -> Vec<u8>) -> Vec<Vec<u8>> {
+    /// Requests for `count` bytes of the data each, at `low` or behind.
+    fn at_random(
+        &self,
+        low: usize,
+        count: usize,
+        request: impl Fn(u32) -> Vec<u8>,
+    ) -> Vec<Vec<u8>> {
         let mut state: u64 = 0xBEA5_A7C4;
         (0..REQUESTS)
             .map(|_| {
@@ -184,7 +213,7 @@ impl Slot {
                 state = state
                     .wrapping_mul(6_364_136_223_846_793_005)
                     .wrapping_add(1);
-                let offset = (state >> 33) as usize % (self.size - count + 1);
+                let offset = low + (state >> 33) as usize % (self.size - low - count + 1);
                 request(offset as u32)
             })
             .collect()
