@@ -89,6 +89,10 @@ fn the_number_of_rows() {
     assert_eq!(find(&more), wrong(ListClause::EmptyStretch, 16));
     more[3] = 0;
     assert_eq!(find(&more), wrong(ListClause::AfterRows, 11));
+    // 256 are not too many, whatever else is wrong.
+    let mut most = list(&[(0, 3)]);
+    most[..4].copy_from_slice(&256_u32.to_be_bytes());
+    assert_eq!(find(&most), wrong(ListClause::EmptyStretch, 16));
 }
 
 #[test]
@@ -153,6 +157,8 @@ fn bytes_that_are_not_zero() {
         (&[(0, 30)], 4, 8),
         (&[(0, 2), (9, 3)], 12, 9),
         (&[(0, 2), (10, 20)], 12, 29),
+        // the first of several
+        (&[(9, 1), (29, 1)], 4, 9),
     ] {
         let found = Some((ListClause::NotZero, byte, Some(position)));
         assert_eq!(find(&list(rows)), found, "{rows:?}");

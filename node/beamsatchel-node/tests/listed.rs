@@ -195,6 +195,7 @@ fn the_incident() {
     assert_eq!(send(&mut slot, write(24, b"VAN4 20C")), [8..24]);
     let stretches = slot.stretches().unwrap();
     assert_eq!((stretches.len(), stretches.byte_count()), (1, 16));
+    assert!(!stretches.is_empty());
     for position in 0..40 {
         assert_eq!(stretches.contains(position), (8..24).contains(&position));
     }

@@ -9,6 +9,9 @@ use common::raw::{add, append, cancel, reads, test_and_write, write, Write, ENAB
 /// The bytes of a list.
 const LENGTH: usize = 2_052;
 
+/// The reply space of P58 to P63.
+const SPACE: [u8; 8] = [0xA5; 8];
+
 /// Start and length.
 type Row = (u32, u32);
 
@@ -40,6 +43,17 @@ impl Slot {
         }
     }
 
+    /// A container of so many bytes with this data and so many bytes of slack, beside a list that is handed in.
+    fn spare(length: usize, data: &[u8], slack: usize, list: Vec<u8>) -> Slot {
+        let mut slot = Slot::fresh(length);
+        slot.done(&append(&[data, &vec![b'Z'; slack]].concat()));
+        slot.done(&write(&[], Some(data.len() as u32)));
+        assert_eq!(slot.data(), data);
+        let count = (468 + data.len() + slack) as u64;
+        assert_eq!(slot.container[92..100], count.to_be_bytes());
+        Slot { list, ..slot }
+    }
+
     /// Data that somebody wrote, all of it, and a list that is handed in.
     fn holding(data: &[u8], rows: &[Row]) -> Slot {
         let mut slot = Slot::fresh(472 + data.len() + 100);
@@ -69,6 +83,20 @@ impl Slot {
 
     fn number(&mut self, request: &[u8]) -> u32 {
         self.apply(request, &mut []).0
+    }
+
+    /// The number beside eight bytes of reply space. On a refusal container and list stay, and unless a test is false
+    /// the reply space too.
+    fn ask(&mut self, request: &[u8]) -> u32 {
+        let (before, mut reply) = (self.clone(), SPACE);
+        let (number, count) = self.apply(request, &mut reply);
+        if number != 0 {
+            assert_eq!(*self, before);
+        }
+        if number != 0 && number != 8 {
+            assert_eq!((count, reply), (0, SPACE));
+        }
+        number
     }
 
     /// The same with both lent for reading only.
@@ -103,20 +131,266 @@ impl Slot {
     }
 }
 
+/// Ten bytes of data, of which the fifth is not zero, with three bytes of slack in 500.
+fn fifth(list: Vec<u8>) -> Slot {
+    Slot::spare(500, &[0, 0, 0, 0, 5, 0, 0, 0, 0, 0], 3, list)
+}
+
+#[test]
+fn p58_lists_that_are_refused() {
+    let none = list(&[]);
+    let mut trailing = none.clone();
+    trailing[LENGTH - 1] = 1;
+    let mut behind_last = list(&[(0, 1)]);
+    behind_last[3] = 0;
+    for (list, number) in [
+        (none[..LENGTH - 1].to_vec(), 16),
+        ([&none[..], &[0]].concat(), 16),
+        (Vec::new(), 16),
+        // length 0; touching, overlapping, falling
+        (list(&[(2, 0)]), 16),
+        (list(&[(0, 1), (1, 1)]), 16),
+        (list(&[(0, 3), (2, 2)]), 16),
+        (list(&[(5, 1), (0, 1)]), 16),
+        // behind the data, in the slack
+        (list(&[(8, 3)]), 16),
+        (list(&[(10, 1)]), 16),
+        // over the fifth byte, by their ends
+        (list(&[(3, 2)]), 16),
+        (list(&[(4, 2)]), 16),
+        (trailing, 16),
+        (behind_last, 16),
+        (list(&[(1, 4_294_967_295)]), 16),
+        // good ones
+        (none, 3),
+        (list(&[(8, 2)]), 3),
+        (list(&[(0, 4), (5, 5)]), 3),
+        (list(&[(1, 2)]), 3),
+    ] {
+        let words = format!("{:?}", list.get(..20));
+        assert_eq!(fifth(list).ask(&[]), number, "{words}");
+    }
+    let mut too_many = full();
+    too_many.list[..4].copy_from_slice(&257_u32.to_be_bytes());
+    assert_eq!(too_many.ask(&[]), 16);
+}
+
+#[test]
+fn p59_the_list_between_the_container_and_the_request() {
+    let mut foreign = write(&[(0, b"X")], None);
+    foreign[8..40].fill(1);
+    let before_start = write(&[(-12, b"X")], None);
+    let of = |container: Vec<u8>| Slot {
+        container,
+        list: Vec::new(),
+    };
+    for (mut slot, request, number) in [
+        (of(vec![0; 471]), Vec::new(), 1),
+        (of(vec![0; 500]), Vec::new(), 2),
+        (fifth(Vec::new()), reads(&[(0, 4)]), 16),
+        (fifth(Vec::new()), add(1), 16),
+        (fifth(Vec::new()), foreign.clone(), 16),
+        (fifth(Vec::new()), before_start.clone(), 16),
+        (fifth(list(&[])), foreign, 5),
+        (fifth(list(&[])), before_start, 4),
+    ] {
+        assert_eq!(slot.ask(&request), number, "{request:?}");
+    }
+}
+
+/// Requests one after the other on a slot: their numbers, the data and the rows in the end.
+fn listing(mut slot: Slot, requests: &[Vec<u8>]) -> (Vec<u32>, Vec<u8>, Vec<Row>) {
+    let numbers = requests.iter().map(|request| slot.ask(request)).collect();
+    (numbers, slot.data().to_vec(), slot.rows())
+}
+
+/// A byte at an offset.
+fn one(offset: i32, byte: &[u8; 1]) -> Vec<u8> {
+    write(&[(offset, byte)], None)
+}
+
+fn cut(length: u32) -> Vec<u8> {
+    write(&[], Some(length))
+}
+
+/// A test that is false, before a write.
+fn false_test(write: Write) -> Vec<u8> {
+    test_and_write(&[(0, 1, 3, b"X")], &[write], None)
+}
+
+#[test]
+fn p60_writes_beside_gaps() {
+    let gap = write(&[(4, b"AB")], None);
+    let then = |request: Vec<u8>| vec![gap.clone(), request];
+    for (requests, numbers, data, rows) in [
+        (
+            vec![gap.clone()],
+            &[0][..],
+            &b"\0\0\0\0AB"[..],
+            &[(0, 4)][..],
+        ),
+        (then(one(0, b"C")), &[0, 0], b"C\0\0\0AB", &[(1, 3)]),
+        (then(one(3, b"C")), &[0, 0], b"\0\0\0CAB", &[(0, 3)]),
+        (then(one(1, b"C")), &[0, 0], b"\0C\0\0AB", &[(0, 1), (2, 2)]),
+        (then(write(&[(0, b"CDEF")], None)), &[0, 0], b"CDEFAB", &[]),
+        (
+            then(write(&[(3, b"CDE")], None)),
+            &[0, 0],
+            b"\0\0\0CDE",
+            &[(0, 3)],
+        ),
+        (
+            then(write(&[(1, b"\0\0")], None)),
+            &[0, 0],
+            b"\0\0\0\0AB",
+            &[(0, 1), (3, 1)],
+        ),
+        (vec![write(&[(9, b"")], None)], &[0], b"", &[]),
+        (
+            vec![one(2, b"A"), one(-1, b"B"), one(7, b"C")],
+            &[0, 0, 0],
+            b"\0\0AB\0\0\0C",
+            &[(0, 2), (4, 3)],
+        ),
+        (
+            vec![write(&[(1, b"A"), (4, b"B")], None)],
+            &[0],
+            b"\0A\0\0B",
+            &[(0, 1), (2, 2)],
+        ),
+        (
+            vec![write(&[(5, b"A"), (2, b"B")], None)],
+            &[0],
+            b"\0\0B\0\0A",
+            &[(0, 2), (3, 2)],
+        ),
+        (
+            vec![write(&[(3, b"A"), (-5, b"B")], None)],
+            &[0],
+            b"B\0\0A",
+            &[(1, 2)],
+        ),
+        (
+            vec![one(0, b"A"), one(4, b"B"), write(&[(0, b"CD")], None)],
+            &[0, 0, 0],
+            b"CD\0\0B",
+            &[(2, 2)],
+        ),
+        (
+            vec![gap.clone(), one(1, b"C"), write(&[(0, b"DEF")], None)],
+            &[0, 0, 0],
+            b"DEF\0AB",
+            &[(3, 1)],
+        ),
+        (
+            vec![gap.clone(), false_test((0, b"C")), reads(&[(0, 4)]), add(1)],
+            &[0, 8, 0, 0],
+            b"\0\0\0\0AB",
+            &[(0, 4)],
+        ),
+    ] {
+        let expected = (numbers.to_vec(), data.to_vec(), rows.to_vec());
+        assert_eq!(listing(Slot::fresh(520), &requests), expected);
+    }
+}
+
+#[test]
+fn p61_cuts_behind_gaps() {
+    let gap = write(&[(4, b"AB")], None);
+    let six = write(&[(0, b"ABCDEF")], None);
+    for (requests, numbers, data, rows) in [
+        (
+            vec![gap.clone(), cut(2)],
+            &[0, 0][..],
+            &b"\0\0"[..],
+            &[(0, 2)][..],
+        ),
+        (vec![gap.clone(), cut(4)], &[0, 0], b"\0\0\0\0", &[(0, 4)]),
+        (vec![gap.clone(), cut(0)], &[0, 0], b"", &[]),
+        (vec![gap.clone(), cut(5)], &[0, 0], b"\0\0\0\0A", &[(0, 4)]),
+        (
+            vec![gap.clone(), cut(2), one(4, b"Z")],
+            &[0, 0, 0],
+            b"\0\0\0\0Z",
+            &[(0, 4)],
+        ),
+        (
+            vec![six, cut(2), one(4, b"Z")],
+            &[0, 0, 0],
+            b"AB\0\0Z",
+            &[(2, 2)],
+        ),
+        (
+            vec![write(&[(6, b"A")], Some(3))],
+            &[0],
+            b"\0\0\0",
+            &[(0, 3)],
+        ),
+        (vec![gap.clone(), cut(9)], &[0, 0], b"\0\0\0\0AB", &[(0, 4)]),
+    ] {
+        let expected = (numbers.to_vec(), data.to_vec(), rows.to_vec());
+        assert_eq!(listing(Slot::fresh(520), &requests), expected);
+    }
+}
+
+#[test]
+fn p62_a_far_write_and_a_cut() {
+    let requests = [write(&[(2_147_483_647, b"A")], Some(10))];
+    let done = (vec![0], vec![0; 10], vec![(0, 10)]);
+    assert_eq!(listing(Slot::fresh(482), &requests), done);
+    let refused = (vec![11], Vec::new(), Vec::new());
+    assert_eq!(listing(Slot::fresh(481), &requests), refused);
+
+    // 1, 2 and 260 to 263, as bytes.
+    let mut slot = Slot::fresh(1_000);
+    slot.done(&write(&[(0, b"A"), (3, &[b'B'; 257]), (264, b"C")], None));
+    let bytes = [0, 0, 0, 2, 0, 0, 0, 1, 0, 0, 0, 2, 0, 0, 1, 4, 0, 0, 0, 4];
+    assert_eq!(slot.list[..20], bytes);
+    assert!(slot.list[20..].iter().all(|byte| *byte == 0));
+}
+
+/// 514 zeros beside 256 rows, the first of three positions and the others of every second.
+fn full() -> Slot {
+    let mut rows = vec![(0, 3)];
+    rows.extend((0..255).map(|row| (4 + 2 * row, 1)));
+    Slot::spare(1_100, &[0; 514], 0, list(&rows))
+}
+
+/// The number of each request there, how many rows there are then, and the first two.
+#[test]
+fn p63_too_many_rows() {
+    for (request, number, count, first) in [
+        (one(1, b"X"), 13, 256, [(0, 3), (4, 1)]),
+        (one(520, b"X"), 13, 256, [(0, 3), (4, 1)]),
+        (
+            write(&[(1, b"X"), (0, b"Y")], None),
+            0,
+            256,
+            [(2, 1), (4, 1)],
+        ),
+        (write(&[(1, b"X")], Some(512)), 0, 256, [(0, 1), (2, 1)]),
+        (one(0, b"X"), 0, 256, [(1, 2), (4, 1)]),
+        (one(512, b"X"), 0, 255, [(0, 3), (4, 1)]),
+        (reads(&[(0, 1)]), 0, 256, [(0, 3), (4, 1)]),
+        (false_test((1, b"X")), 8, 256, [(0, 3), (4, 1)]),
+        (one(628, b"X"), 11, 256, [(0, 3), (4, 1)]),
+        (one(627, b"X"), 13, 256, [(0, 3), (4, 1)]),
+    ] {
+        let mut slot = full();
+        assert_eq!(slot.ask(&request), number, "{request:?}");
+        let after = slot.rows();
+        assert_eq!((after.len(), &after[..2]), (count, &first[..]));
+    }
+}
+
 #[test]
 fn the_first_row_byte_by_byte() {
     let mut slot = Slot::fresh(500);
-    assert_eq!(slot.list, [0; 2_052]);
+    assert_eq!(slot.list, [0; LENGTH]);
     // P3: `AB` at 3 on empty data.
     slot.done(&write(&[(3, b"AB")], None));
     assert_eq!(slot.list[..12], [0, 0, 0, 1, 0, 0, 0, 0, 0, 0, 0, 3]);
     assert!(slot.list[12..].iter().all(|byte| *byte == 0));
-    // P4: then a cut to 2, then `Z` at 4. The gap goes on with what is left of the row.
-    slot.done(&write(&[], Some(2)));
-    assert_eq!(slot.rows(), [(0, 2)]);
-    slot.done(&write(&[(4, b"Z")], None));
-    assert_eq!(slot.rows(), [(0, 4)]);
-    assert_eq!(slot.data(), b"\0\0\0\0Z");
 }
 
 #[test]
@@ -131,17 +405,6 @@ fn the_incident_leaves_a_row() {
     assert_eq!(slot.rows(), []);
     slot.done(&write(&[(24, b"VAN4 20C")], None));
     assert_eq!(slot.rows(), [(8, 16)]);
-}
-
-#[test]
-fn p6_lists_ten_zeros() {
-    let request = write(&[(2_147_483_647, b"A")], Some(10));
-    let mut slot = Slot::fresh(482);
-    slot.done(&request);
-    assert_eq!((slot.rows(), slot.data()), (vec![(0, 10)], &[0; 10][..]));
-    let mut slot = Slot::fresh(481);
-    assert_eq!(slot.number(&request), 11);
-    assert_eq!(slot, Slot::fresh(481));
 }
 
 /// What writes make of a row from 2 to 8 in ten bytes, nobody having written 2 to 7.
