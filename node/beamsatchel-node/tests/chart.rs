@@ -7,12 +7,14 @@ mod common;
 use beamsatchel_node::{ListedContainer, NodeId, TestAndWrite, WriteEnabler};
 use common::{fresh, with_data};
 use std::ffi::OsStr;
-use std::fs::{self, File};
+use std::fs::{self, File, Permissions};
 use std::io::Write;
 use std::ops::Range;
 use std::os::unix::ffi::OsStrExt;
+use std::os::unix::fs::{MetadataExt, PermissionsExt};
 use std::path::{Path, PathBuf};
 use std::process::{ChildStdin, Command, Output, Stdio};
+use std::time::{Duration, Instant};
 
 /// Writes the shipped example anew where it is set.
 const BLESS: &str = "BEAMSATCHEL_BLESS";
@@ -123,7 +125,8 @@ fn between<'a>(svg: &'a str, before: &str, behind: &str) -> Vec<&'a str> {
 
 /// The runs of the line, each with the places of its samples in pixels.
 fn line(svg: &str) -> Vec<Vec<(f64, f64)>> {
-    let paths = between(svg, r#"<path id="bs-line" class="line" d=""#, "\"");
+    let begin = format!(r#"<path id="{}" class="line" d=""#, id(svg, "line"));
+    let paths = between(svg, &begin, "\"");
     assert!(paths.len() <= 1);
     let runs = paths.iter().flat_map(|path| path.split('M').skip(1));
     let runs = runs.map(|run| {
@@ -143,8 +146,20 @@ fn gaps(svg: &str) -> usize {
     svg.matches(r#"<rect class="mark""#).count()
 }
 
+/// An id, which has the picture's own number behind it.
+fn id(svg: &str, name: &str) -> String {
+    let own = between(svg, r#" aria-labelledby="bs-title"#, " ")[0];
+    format!("bs-{name}{own}")
+}
+
+fn name(svg: &str) -> &str {
+    let begin = format!(r#"<title id="{}">"#, id(svg, "title"));
+    between(svg, &begin, "</title>")[0]
+}
+
 fn description(svg: &str) -> &str {
-    between(svg, r#"<desc id="bs-desc">"#, "</desc>")[0]
+    let begin = format!(r#"<desc id="{}">"#, id(svg, "desc"));
+    between(svg, &begin, "</desc>")[0]
 }
 
 /// The labels of the values, from below.
@@ -160,19 +175,35 @@ fn value_labels(svg: &str) -> Vec<&str> {
 fn check_picture(svg: &str) {
     check_xml(svg);
     let head = svg.lines().next().unwrap();
-    assert!(
-        head.starts_with("<svg ")
-            && head.contains(r#" role="img" aria-labelledby="bs-title bs-desc""#)
-    );
-    assert!(svg.contains(r#"<title id="bs-title">"#) && !description(svg).is_empty());
+    let labels = format!("{} {}", id(svg, "title"), id(svg, "desc"));
+    let labels = format!(r#" role="img" aria-labelledby="{labels}""#);
+    assert!(head.starts_with("<svg ") && head.contains(&labels));
+    assert!(!name(svg).is_empty() && !description(svg).is_empty());
+    // Every id has the number, and what is hatched is hatched by the picture's own pattern.
+    for named in between(svg, " id=\"bs-", "\"") {
+        let (name, own) = named.split_once('-').unwrap();
+        assert!(own.len() == 8 && id(svg, name) == format!("bs-{named}"));
+    }
+    for hatch in between(svg, "url(#", ")") {
+        assert_eq!(hatch, id(svg, "hatch"));
+    }
     let size = |name: &str| -> f64 { between(head, name, "\"")[0].parse().unwrap() };
     let (width, height) = (size(r#" width=""#), size(r#" height=""#));
     for run in line(svg) {
+        assert!(run.is_sorted_by_key(|(x, _)| *x), "{run:?}");
         for (x, y) in run {
             assert!(
                 (0.0..=width).contains(&x) && (0.0..=height).contains(&y),
                 "{x} {y}"
             );
+        }
+    }
+    // What stands below the plot has room on both sides; a letter is about half as wide as it is high.
+    for text in between(svg, r#"<text class="muted" x=""#, "</text>") {
+        if let Some((place, label)) = text.split_once(r#" text-anchor="middle">"#) {
+            let x: f64 = place.split('"').next().unwrap().parse().unwrap();
+            let half = 13.0 / 4.0 * label.chars().count() as f64;
+            assert!(x >= half && x + half <= width, "{text}");
         }
     }
     for text in between(svg, "<text ", ">") {
@@ -361,7 +392,8 @@ fn the_gap_of_the_example() {
     assert!(svg.contains("<title>never written from"));
     let words = "A chart of samples: 2026-03-02T05:30:00Z to 2026-03-02T07:29:00Z, 120 records of 8 bytes, \
                  29 of them never written. The values reach from 8.2 to 21.9 °C. The line breaks where nobody wrote: ";
-    assert_eq!(description(&svg), format!("{words}{gap}."));
+    let smooth = "The dotted line there is smooth, as the old code drew.";
+    assert_eq!(description(&svg), format!("{words}{gap}. {smooth}"));
     // The dotted line goes from the last sample before the gap to the first behind it.
     let line = line(&svg);
     let ((from_x, from_y), (to_x, to_y)) = (line[0][45], line[1][0]);
@@ -370,7 +402,7 @@ fn the_gap_of_the_example() {
     for words in [
         "samples as written",
         "never written",
-        "what the old code would have shown",
+        "smooth, as the old code drew",
     ] {
         assert!(svg.contains(&format!(">{words}</text>")), "{words}");
     }
@@ -403,6 +435,11 @@ fn a_record_is_missing_by_its_own_bytes() {
     assert_eq!(runs(&[37..41]), [4, 3]);
     assert_eq!(runs(&[38..41]), [5, 3]);
     assert_eq!(runs(&[33..34, 41..42, 56..57]), [4, 1, 1]);
+    // Where the times are counted, the bytes right before the value do not count either.
+    let steps = ["--record", "8", "--step", "60", "--value", "4:i16"];
+    for (stretch, missing) in [(32..36, 0), (32..37, 1), (37..40, 1), (38..40, 0)] {
+        assert_eq!(gaps(&draw("bytes", &steps, &data, &[stretch])), missing);
+    }
 }
 
 /// Zeros that somebody wrote are samples.
@@ -432,6 +469,8 @@ fn many_gaps() {
     assert_eq!(dated.len(), 256);
     assert!(dated[0].ends_with(">2026-03-02T05:32:00Z to 05:36:00Z"));
     assert!(dated[255].ends_with(">2026-03-03T15:32:00Z to 15:36:00Z"));
+    // Over midnight both days stand there.
+    assert!(dated[138].ends_with(">2026-03-02T23:56:00Z to 2026-03-03T00:00:00Z"));
     // Numbers above the plot rise, and stand clear of each other.
     let numbers = between(&svg, r#"<text class="number" x=""#, "</text>");
     let numbers = numbers.iter().filter(|text| text.contains("middle"));
@@ -444,6 +483,31 @@ fn many_gaps() {
         last = (number, x + half);
     }
     assert!(last.0 > 240);
+    // Times that count from the first record have no day.
+    let steps = ["--record", "8", "--step", "60", "--value", "4:i16"];
+    let svg = draw("many", &steps, &records(2_048), &stretches);
+    let counted = between(&svg, r#"<text class="muted small""#, "</text>");
+    assert!(counted[0].ends_with(">T+00:02:00 to T+00:06:00"));
+}
+
+/// Up to sixteen gaps have a row each, with all that is known of them; from seventeen on the times alone.
+#[test]
+fn rows_of_the_table() {
+    for (count, short) in [(16, 0), (17, 17)] {
+        let stretches: Vec<_> = (0..count)
+            .map(|at| bytes_of(4 * at + 1..4 * at + 2))
+            .collect();
+        let svg = draw("rows", &OPTIONS, &records(80), &stretches);
+        let short_rows = svg.matches(r#"<text class="muted small""#).count();
+        assert_eq!((gaps(&svg), short_rows), (count, short));
+        let table = svg.split("Never written:").last().unwrap();
+        let long_rows = table.matches(", record ").count();
+        assert_eq!(long_rows, count - short);
+        // They are counted from one.
+        let numbers = between(table, r#" text-anchor="end">"#, "<");
+        let expected: Vec<_> = (1..=count).map(|number| number.to_string()).collect();
+        assert_eq!(numbers, expected);
+    }
 }
 
 /// Where the ends of the data were never written, the time there is not known, unless it is counted.
@@ -452,6 +516,10 @@ fn gaps_at_the_ends() {
     let (data, stretches) = (records(30), [bytes_of(0..5), bytes_of(20..30)]);
     let svg = draw("ends", &OPTIONS, &data, &stretches);
     assert_eq!((line(&svg).len(), gaps(&svg)), (1, 2));
+    // They are seen all the same, beside the samples.
+    for mark in between(&svg, r#"<rect class="mark""#, "/>") {
+        assert!(mark.contains(r#" width="34""#), "{mark}");
+    }
     assert!(
         svg.contains(">up to 2026-03-02T05:35:00Z, records 0 to 4<"),
         "{svg}"
@@ -515,6 +583,8 @@ fn few_records() {
         "A chart of samples: 2026-03-02T05:30:00Z, 1 record of 8 bytes. The values reach from \u{2212}7 to \u{2212}7."
     );
     assert!(svg.contains(">05:30:00<") && svg.contains(">2026-03-02<"));
+    // A sample of its own is a line of no length, below the gaps and above them.
+    assert_eq!(svg.matches("h0\"").count(), 2);
     // One sample between two gaps is seen.
     let svg = draw(
         "few",
@@ -643,6 +713,10 @@ fn time_that_goes_back() {
     assert_eq!(stderr, format!("beamsatchel-chart: {words}\n"));
     assert!(svg.contains(">number of the record, and its time<"));
     let x: Vec<f64> = line(&svg).concat().iter().map(|(x, _)| *x).collect();
+    // From one end of the axis to the other.
+    let axis = between(&svg, r#"<path class="axis" d="M"#, "\"");
+    let axis = axis.iter().find(|axis| axis.contains('V')).unwrap();
+    assert!(axis.starts_with(&format!("{},", x[0])) && axis.ends_with(&format!("H{}", x[6])));
     let steps = [1.0, 1.0, 1.0, 1.0, 2.0, 1.0];
     let step = (x[6] - x[0]) / 7.0;
     for (at, steps) in steps.into_iter().enumerate() {
@@ -650,6 +724,13 @@ fn time_that_goes_back() {
     }
     // Gaps are dated all the same.
     assert!(svg.contains(">from 1970-01-01T00:05:50Z to 1970-01-01T00:06:10Z, 20 s, record 5<"));
+    // Of several the first one is named.
+    let data: Vec<u8> = [100, 90, 300, 200]
+        .iter()
+        .flat_map(|time| record(*time, 5))
+        .collect();
+    let (_, stderr) = draw_and_hear("back", &OPTIONS, &data, &[]);
+    assert!(stderr.contains("The time of record 1 is before"));
     // The same time twice does not go back; nor does the zero of a time that was never written.
     let data: Vec<u8> = [100, 100, 200, 300]
         .iter()
@@ -708,6 +789,11 @@ fn many_records_are_thinned() {
         (line(&svg).len(), line(&svg)[1].len(), gaps(&svg)),
         (3, 1, 2)
     );
+    // The samples at both sides of a gap are drawn, whatever else is in their columns.
+    let svg = draw("thinned", &options, &data, &[400_000..600_000]);
+    let runs = line(&svg);
+    let ((from_x, from_y), (to_x, to_y)) = (runs[0][runs[0].len() - 1], runs[1][0]);
+    assert!(svg.contains(&format!(r#" d="M{from_x},{from_y}L{to_x},{to_y}"/>"#)));
 }
 
 #[test]
@@ -780,6 +866,7 @@ fn fields_and_factors() {
     assert!(description(&scaled("1/3")).ends_with("from 0 to 13."));
     assert!(description(&scaled("-1/3")).ends_with("from \u{2212}13 to 0."));
     assert!(description(&scaled("2/7")).ends_with("from 0 to 11.142857."));
+    assert!(description(&scaled("-2/7")).ends_with("from \u{2212}11.142857 to 0."));
 }
 
 /// Dates are those of the calendar.
@@ -794,6 +881,7 @@ fn times_are_dated() {
         ("253402300799", "9999-12-31T23:59:59Z"),
         ("253402300800", "+10000-01-01T00:00:00Z"),
         ("-62135596800", "0001-01-01T00:00:00Z"),
+        ("-62167219200", "0000-01-01T00:00:00Z"),
         ("-62167219201", "-0001-12-31T23:59:59Z"),
     ] {
         let chart = |start: &str| {
@@ -812,6 +900,27 @@ fn times_are_dated() {
         if dated.len() == 20 {
             assert_eq!(chart(dated), svg);
         }
+    }
+}
+
+/// How long a gap is, in its two largest units.
+#[test]
+fn durations() {
+    for (step, words) in [
+        ("1", "2 s"),
+        ("29", "58 s"),
+        ("30", "1 min"),
+        ("31", "1 min 2 s"),
+        ("1800", "1 h"),
+        ("1801", "1 h"),
+        ("1860", "1 h 2 min"),
+        ("43200", "1 d"),
+        ("46892", "1 d 2 h"),
+        ("432000", "10 d"),
+    ] {
+        let options = ["--record", "8", "--value", "4:i16", "--step", step];
+        let svg = draw("durations", &options, &records(3), &[bytes_of(1..2)]);
+        assert!(svg.contains(&format!(", {words}, record 1<")), "{step}");
     }
 }
 
@@ -843,6 +952,16 @@ fn times_below_the_plot() {
     ] {
         assert_eq!(labels(step, &start), format!("{dated} time, UTC"));
     }
+    // Also at the first time itself.
+    assert_eq!(
+        labels("86400", &["--start", "2026-03-01T00:00:00Z"]),
+        "2026-03 2026-04 2026-05 2026-06 time, UTC"
+    );
+    // Where the dates of two days would touch, the later one stands there.
+    assert_eq!(
+        labels("60", &["--start", "2026-03-02T23:50:00Z"]),
+        "23:50 00:00 2026-03-03 00:10 00:20 00:30 00:40 00:50 01:00 01:10 01:20 01:30 time, UTC"
+    );
     for (step, counted) in [
         (
             "1",
@@ -864,6 +983,113 @@ fn times_below_the_plot() {
     }
 }
 
+/// Trailing zeros of a factor do not count, nor do those at its front.
+#[test]
+fn zeros_in_factors() {
+    let data = records(40);
+    let scaled = |scale: &str| {
+        let options = [&OPTIONS[..], &["--scale", scale]].concat();
+        draw("factors", &options, &data, &[])
+    };
+    for (long, short) in [
+        ("0.1000000", "0.1"),
+        ("1.0", "1"),
+        ("-2.50000000000000000000000", "-2.5"),
+        ("00000000100.0", "100"),
+        ("123456.0", "123456"),
+        ("000000012.3456", "12.3456"),
+        ("0.000001", "1/1000000.0"),
+        ("0.000010", "1/100000"),
+        ("0000000001/0000000003", "1/3"),
+    ] {
+        match short {
+            // Six digits behind the point are what is drawn at the finest.
+            "1/1000000.0" => assert!(description(&scaled(long)).ends_with(" to 0.000039.")),
+            _ => assert_eq!(scaled(long), scaled(short), "{long}"),
+        }
+    }
+}
+
+/// The line goes straight over a silence, and breaks there when that is asked for.
+#[test]
+fn silences() {
+    // Apart by 60 three times, then by 600 and 601; record 6 is missing; then by 3,600 and 60.
+    let times = [0, 60, 120, 180, 780, 1_381, 0, 9_000, 12_600, 12_660];
+    let data: Vec<u8> = (times.iter().zip(1..))
+        .flat_map(|(time, value)| record(*time, value))
+        .collect();
+    let chart = |seconds: &str| {
+        let options = [&OPTIONS[..], &["--break", seconds]].concat();
+        let svg = draw("silences", &options, &data, &[bytes_of(6..7)]);
+        // It is no gap, and has no dotted line.
+        assert_eq!((gaps(&svg), svg.matches(r#"class="old""#).count()), (1, 2));
+        assert_eq!(svg, draw("silences", &options, &data, &[bytes_of(6..7)]));
+        let told = between(&svg, "1 of them never written, ", " s apart")
+            .first()
+            .map(|words| words.to_string());
+        let runs: Vec<usize> = line(&svg).iter().map(Vec::len).collect();
+        let told = told.expect("the subtitle");
+        assert!(description(&svg).contains(&told));
+        (runs, told, svg.matches("<circle").count())
+    };
+    let words =
+        |breaks: &str, seconds: &str| format!("{breaks} where samples are more than {seconds}");
+    assert_eq!(chart("3600"), (vec![6, 3], words("0 breaks", "3,600"), 2));
+    assert_eq!(chart("3599"), (vec![6, 1, 2], words("1 break", "3,599"), 3));
+    assert_eq!(chart("601"), (vec![6, 1, 2], words("1 break", "601"), 3));
+    // A sample between a silence and a gap, or between two silences, is one dot.
+    assert_eq!(
+        chart("600"),
+        (vec![5, 1, 1, 2], words("2 breaks", "600"), 4)
+    );
+    assert_eq!(
+        chart("599"),
+        (vec![4, 1, 1, 1, 2], words("3 breaks", "599"), 5)
+    );
+    // Breaks of a few pixels have no dots, which would hide them.
+    assert_eq!(chart("59"), (vec![1; 9], words("7 breaks", "59"), 5));
+    // Without the option nothing is said, and only the gap breaks the line.
+    let svg = draw("silences", &OPTIONS, &data, &[bytes_of(6..7)]);
+    let runs: Vec<usize> = line(&svg).iter().map(Vec::len).collect();
+    assert!(runs == [6, 3] && !svg.contains("apart"));
+}
+
+/// The same times count where they go back, and a picture of breaks alone stays small.
+#[test]
+fn silences_in_any_order() {
+    let data: Vec<u8> = [100, 200, 40, 140, 139]
+        .iter()
+        .flat_map(|time| record(*time, 5))
+        .collect();
+    let options = [&OPTIONS[..], &["--break", "100"]].concat();
+    let (svg, _) = draw_and_hear("silences-back", &options, &data, &[]);
+    let runs: Vec<usize> = line(&svg).iter().map(Vec::len).collect();
+    assert_eq!(runs, [2, 3]);
+    assert!(svg.contains(">5 records of 8 bytes, 1 break where samples are more than 100 s apart<"));
+    // Every second sample is 255 s behind the one before it.
+    let data = [0, 255].repeat(500_000);
+    let options = [
+        "--record", "1", "--time", "0:u8", "--value", "0:u8", "--break", "254",
+    ];
+    let (svg, _) = draw_and_hear("silences-back", &options, &data, &[]);
+    assert!(svg.contains(", 999,999 breaks where samples are more than 254 s apart<"));
+    assert!(svg.len() < 100_000, "{}", svg.len());
+    assert!((600..=800).contains(&line(&svg).len()));
+}
+
+/// A word of any length is cut off, and soon.
+#[test]
+fn a_long_word() {
+    let word = "m".repeat(131_000);
+    let options = [&OPTIONS[..], &["--title", &word, "--unit", &word]].concat();
+    let begun = Instant::now();
+    let svg = draw("word", &options, &records(9), &[]);
+    assert!(begun.elapsed() < Duration::from_secs(5));
+    // Of 760 pixels the ellipsis takes 22, and each m 19.6.
+    assert!(svg.contains(&format!(">{}…</text>", "m".repeat(37))));
+    assert!(!svg.contains(&format!(">{}…</text>", "m".repeat(38))));
+}
+
 /// Title and unit may hold anything that a command line can.
 #[test]
 fn texts_are_escaped() {
@@ -872,10 +1098,7 @@ fn texts_are_escaped() {
     let svg = draw("escaped", &options, &records(9), &[bytes_of(3..5)]);
     let escaped =
         "&lt;script&gt;&amp;amp;&lt;/text&gt;&quot;&#39;\u{FFFD}\u{FFFD}\u{FFFD}\u{FFFD}   ]]&gt;";
-    assert!(
-        svg.contains(&format!(r#"<title id="bs-title">{escaped}</title>"#)),
-        "{svg}"
-    );
+    assert_eq!(name(&svg), escaped);
     assert!(svg.contains(">&quot;&lt;°&amp;C&gt;&#39;</text>"));
     // What is too long for the picture is cut off there, and whole in its name.
     let long = "long ".repeat(200);
@@ -885,8 +1108,23 @@ fn texts_are_escaped() {
     ]
     .concat();
     let svg = draw("escaped", &options, &records(9), &[]);
-    assert!(svg.contains(&format!(r#"<title id="bs-title">{long}</title>"#)));
+    assert_eq!(name(&svg), long);
     assert_eq!(svg.matches("…</text>").count(), 2);
+    assert_eq!(svg.matches(r#"<text class="title""#).count(), 2);
+}
+
+/// Two pictures in one page have no id in common, however little they differ.
+#[test]
+fn ids_are_the_pictures_own() {
+    let mut data = records(9);
+    let chart = |data: &[u8], title: &str| {
+        let options = [&OPTIONS[..], &["--title", title]].concat();
+        id(&draw("ids", &options, data, &[]), "line")
+    };
+    let first = chart(&data, "a");
+    assert!(chart(&data, "a") == first && chart(&data, "b") != first);
+    data[13] += 1;
+    assert_ne!(chart(&data, "a"), first);
 }
 
 /// The same files and options give the same bytes, whatever is around.
@@ -923,6 +1161,16 @@ fn the_same_bytes_each_time() {
         .output();
     assert_eq!(ends(output.unwrap()), (String::new(), String::new(), 0));
     pictures.push((fs::read_to_string(&out).unwrap(), String::new(), 0));
+    // Behind `--` all are files.
+    for (file, name) in files.iter().zip(["--out", "-"]) {
+        fs::copy(file, place("same", name)).unwrap();
+    }
+    let output = command()
+        .current_dir(out.parent().unwrap())
+        .args(OPTIONS)
+        .args(["--", "--out", "-"])
+        .output();
+    pictures.push(ends(output.unwrap()));
     assert!(pictures.iter().all(|picture| *picture == pictures[0]));
 }
 
@@ -989,6 +1237,140 @@ fn what_is_refused() {
         let fault = format!("  at byte {at} of the list: the list is not 2,052 bytes long\n");
         assert_eq!(chart(&slot, list), format!("{not_good}{fault}"));
     }
+}
+
+/// The two files the wrong way round are told of.
+#[test]
+fn swapped_files() {
+    let [slot, list] = files("swapped", &records(9), &[]);
+    let output = command().args(OPTIONS).args([&list, &slot]).output();
+    let (stdout, stderr, code) = ends(output.unwrap());
+    assert_eq!((&stdout[..], code), ("", 1));
+    let hint = format!("\n  {slot:?} begins as a container: are the two files swapped?\n");
+    assert!(stderr.ends_with(&hint), "{stderr}");
+}
+
+/// The picture never takes the place of what it is drawn from.
+#[test]
+fn the_slot_is_not_overwritten() {
+    let [slot, list] = files("itself", &records(9), &[]);
+    let old = [&slot, &list].map(|file| fs::read(file).unwrap());
+    let link = |name: &str, made: fn(&Path, &Path) -> std::io::Result<()>, to: &Path| {
+        let link = place("itself", name);
+        let _ = fs::remove_file(&link);
+        made(to, &link).unwrap();
+        link
+    };
+    let symlink = |to: &Path, link: &Path| std::os::unix::fs::symlink(to, link);
+    let hard_link = |to: &Path, link: &Path| fs::hard_link(to, link);
+    let folder = slot.parent().unwrap();
+    for (out, what) in [
+        (slot.clone(), "container"),
+        (list.clone(), "list"),
+        (folder.join("../itself/slot"), "container"),
+        (link("soft slot", symlink, &slot), "container"),
+        (link("soft list", symlink, &list), "list"),
+        (link("hard slot", hard_link, &slot), "container"),
+        (link("hard list", hard_link, &list), "list"),
+    ] {
+        let output = command()
+            .args(OPTIONS)
+            .arg("--out")
+            .arg(&out)
+            .args([&slot, &list])
+            .output();
+        let complaint = format!("beamsatchel-chart: --out {out:?} is the {what} itself\n");
+        assert_eq!(ends(output.unwrap()), (String::new(), complaint, 2));
+        assert!([&slot, &list].map(|file| fs::read(file).unwrap()) == old);
+    }
+}
+
+/// Where the picture cannot be written whole, the old one stays, and nothing else.
+#[test]
+fn a_full_disk_leaves_the_old_picture() {
+    let [slot, list] = files("full", &records(9), &[]);
+    let (old, new) = (file("full", "old.svg", b"old"), place("full", "new.svg"));
+    let _ = fs::remove_file(&new);
+    let names = || {
+        let names = fs::read_dir(slot.parent().unwrap()).unwrap();
+        let mut names: Vec<_> = names.map(|entry| entry.unwrap().file_name()).collect();
+        names.sort();
+        names
+    };
+    let before = names();
+    for out in [&old, &new] {
+        // No file may be longer than a block or two.
+        let output = Command::new("sh")
+            .args(["-c", "trap '' XFSZ; ulimit -f 1; exec \"$@\"", "sh"])
+            .arg(command().get_program())
+            .args(OPTIONS)
+            .arg("--out")
+            .arg(out)
+            .args([&slot, &list])
+            .output();
+        let complaint = format!("beamsatchel-chart: {out:?}: File too large (os error 27)\n");
+        assert_eq!(ends(output.unwrap()), (String::new(), complaint, 2));
+        assert_eq!(
+            (fs::read(&old).unwrap(), names()),
+            (b"old".to_vec(), before.clone())
+        );
+    }
+}
+
+/// A picture that is there is replaced, with its permissions, and its link stays; a pipe or a device is written to.
+#[test]
+fn where_the_picture_goes() {
+    let _ = fs::remove_dir_all(place("goes", ""));
+    let [slot, list] = files("goes", &records(9), &[]);
+    let draw_to = |out: &OsStr| {
+        let output = command()
+            .args(OPTIONS)
+            .arg("--out")
+            .arg(out)
+            .args([&slot, &list])
+            .output();
+        ends(output.unwrap())
+    };
+    let (svg, ..) = draw_to("-".as_ref());
+    check_picture(&svg);
+    assert_eq!(
+        draw_to("/dev/stdout".as_ref()),
+        (svg.clone(), String::new(), 0)
+    );
+    let (out, link) = (file("goes", "out.svg", b"old"), place("goes", "link"));
+    fs::set_permissions(&out, Permissions::from_mode(0o640)).unwrap();
+    let _ = fs::remove_file(&link);
+    std::os::unix::fs::symlink("out.svg", &link).unwrap();
+    for path in [&out, &link] {
+        fs::write(&out, "old").unwrap();
+        let done = (String::new(), String::new(), 0);
+        assert_eq!(draw_to(path.as_os_str()), done);
+        assert_eq!(fs::read_to_string(&out).unwrap(), svg);
+        assert_eq!(fs::metadata(&out).unwrap().mode() & 0o777, 0o640);
+    }
+    assert!(fs::symlink_metadata(&link).unwrap().is_symlink());
+    let names = || fs::read_dir(out.parent().unwrap()).unwrap().count();
+    assert_eq!(names(), 4);
+    // A process that was ended may have left what it had written so far.
+    let output = Command::new("sh")
+        .args(["-c", "touch .beamsatchel-chart.$$; exec \"$@\"", "sh"])
+        .current_dir(out.parent().unwrap())
+        .arg(command().get_program())
+        .args(OPTIONS)
+        .args(["--out", "new.svg", "slot", "list"])
+        .output();
+    assert_eq!(ends(output.unwrap()), (String::new(), String::new(), 0));
+    assert_eq!(names(), 6);
+    assert_eq!(fs::read_to_string(place("goes", "new.svg")).unwrap(), svg);
+    let complaint = "beamsatchel-chart: \"/dev/full\": No space left on device (os error 28)\n";
+    assert_eq!(
+        draw_to("/dev/full".as_ref()),
+        (String::new(), complaint.to_string(), 2)
+    );
+    let missing = place("goes", "missing").join("out.svg");
+    let complaint =
+        format!("beamsatchel-chart: {missing:?}: No such file or directory (os error 2)\n");
+    assert_eq!(draw_to(missing.as_os_str()), (String::new(), complaint, 2));
 }
 
 #[test]
@@ -1076,27 +1458,32 @@ fn a_wrong_command_line() {
         (
             "--record",
             "0",
-            "--record \"0\" is no length of 1 byte or more",
+            "--record \"0\" is no number from 1 to 16777216",
         ),
         (
             "--record",
             "-8",
-            "--record \"-8\" is no length of 1 byte or more",
+            "--record \"-8\" is no number from 1 to 16777216",
         ),
         (
             "--record",
             "+8",
-            "--record \"+8\" is no length of 1 byte or more",
+            "--record \"+8\" is no number from 1 to 16777216",
         ),
         (
             "--record",
             "",
-            "--record \"\" is no length of 1 byte or more",
+            "--record \"\" is no number from 1 to 16777216",
         ),
         (
             "--record",
             "18446744073709551616",
-            "--record \"18446744073709551616\" is no length of 1 byte or more",
+            "--record \"18446744073709551616\" is no number from 1 to 16777216",
+        ),
+        (
+            "--record",
+            "16777217",
+            "--record \"16777217\" is no number from 1 to 16777216",
         ),
         (
             "--record",
@@ -1117,6 +1504,11 @@ fn a_wrong_command_line() {
             "--value",
             "18446744073709551615:u8",
             "--value \"18446744073709551615:u8\" reaches outside the record of 8 bytes",
+        ),
+        (
+            "--value",
+            "18446744073709551616:u8",
+            "--value \"18446744073709551616:u8\" reaches outside the record of 8 bytes",
         ),
         (
             "--value",
@@ -1156,6 +1548,21 @@ fn a_wrong_command_line() {
         ("--step", "1", "--time is given beside --step or --start"),
         ("--start", "1", "--time is given beside --step or --start"),
         (
+            "--break",
+            "0",
+            "--break \"0\" is no number from 1 to 1000000000",
+        ),
+        (
+            "--break",
+            "1000000001",
+            "--break \"1000000001\" is no number from 1 to 1000000000",
+        ),
+        (
+            "--break",
+            "1.5",
+            "--break \"1.5\" is no number from 1 to 1000000000",
+        ),
+        (
             "--width",
             "319",
             "--width \"319\" is no number from 320 to 4096",
@@ -1186,6 +1593,10 @@ fn a_wrong_command_line() {
         "1000000",
         "1/1000000",
         "0.0000001",
+        "0.1234567",
+        "12345.67",
+        "1.x0",
+        "x.5",
         ".5",
         "5.",
         "1e3",
@@ -1194,10 +1605,11 @@ fn a_wrong_command_line() {
         "1/2/3",
         "1.5/2",
     ] {
-        let words = "is no factor that is not 0 and has at most six digits above and below";
+        let words = "a factor is other than 0, may be negative, and has at most six digits in all, not counting \
+                     leading zeros before the point and trailing zeros behind it, or six on either side of the /";
         assert_eq!(
             with("--scale", Some(scale)),
-            format!("--scale {scale:?} {words}")
+            format!("--scale {scale:?}: {words}")
         );
     }
     assert_eq!(with("--record", None), "--record is missing");
@@ -1210,6 +1622,13 @@ fn a_wrong_command_line() {
         ];
         complaint(&arguments.map(OsStr::new))
     };
+    let arguments = [
+        "--record", "8", "--value", "4:i16", "--step", "1", "--break", "60", "a", "b",
+    ];
+    assert_eq!(
+        complaint(&arguments.map(OsStr::new)),
+        "--break is given beside --step"
+    );
     for step in ["0", "-1", "1.5", "1000000001", ""] {
         assert_eq!(
             steps(step, "0"),
@@ -1234,7 +1653,8 @@ fn a_wrong_command_line() {
         "1000000000000000000",
         "２026-01-01T00:00:0",
     ] {
-        let words = "is neither 2026-03-02T06:00:00Z nor a number of seconds";
+        let words =
+            "is neither a time such as 2026-03-02T06:00:00Z nor seconds of at most 18 digits";
         assert_eq!(steps("60", start), format!("--start {start:?} {words}"));
     }
 
@@ -1252,17 +1672,18 @@ fn a_wrong_command_line() {
             .collect();
         assert_eq!(complaint(&arguments), words);
     }
-    for unknown in ["-", "-h", "--records", "--record=8", "--help"] {
+    for unknown in ["-", "-H", "--records", "--record=8", "--help=all"] {
         let arguments = [unknown, "a", "b"].map(OsStr::new);
-        assert_eq!(complaint(&arguments), format!("{unknown:?} is no option"));
+        let words = format!("there is no option {unknown:?}");
+        assert_eq!(complaint(&arguments), words);
     }
     assert_eq!(
         complaint(&["a", "b", "--title"].map(OsStr::new)),
-        "\"--title\" says nothing"
+        "--title needs a value"
     );
     assert_eq!(
         complaint(&["--title", "a", "--title", "a"].map(OsStr::new)),
-        "\"--title\" is given twice"
+        "--title is given twice"
     );
     let not_utf_8 = OsStr::from_bytes(b"\xFF");
     let mut arguments: Vec<&OsStr> = OPTIONS.iter().map(OsStr::new).collect();
@@ -1276,11 +1697,33 @@ fn help_is_what_was_asked_for() {
     assert_eq!((&stderr[..], code), ("", 0));
     assert!(stdout.starts_with("usage: beamsatchel-chart OPTIONS [--] CONTAINER LIST\n"));
     for option in [
-        "record", "value", "scale", "unit", "title", "time", "step", "start", "width", "height",
-        "out",
+        "record", "value", "scale", "unit", "title", "time", "step", "start", "break", "width",
+        "height", "out",
     ] {
         assert!(stdout.contains(&format!("\n  --{option} ")), "{option}");
     }
+    assert!(stdout.contains("smooth, as the old code drew"));
+    // Anywhere, whatever else is right or wrong, and also in short.
+    for arguments in [
+        &["-h"][..],
+        &["a", "b", "--help"],
+        &["--record", "8", "-h", "a"],
+        &["--wrong", "--help", "--", "a"],
+        &["--help", "-h"],
+    ] {
+        let ended = ends(command().args(arguments).output().unwrap());
+        assert_eq!(ended, (stdout.clone(), String::new(), 0), "{arguments:?}");
+    }
+    // Behind `--` it is a file.
+    let output = command()
+        .args(OPTIONS)
+        .args(["--", "--help", "-h"])
+        .output();
+    let (_, stderr, code) = ends(output.unwrap());
+    assert!(
+        code == 2 && stderr.starts_with("beamsatchel-chart: \"--help\": No such file"),
+        "{stderr}"
+    );
     assert!(stdout.lines().all(|line| line.len() <= 82));
 }
 
@@ -1294,4 +1737,6 @@ fn a_fresh_slot() {
     assert_eq!((&stderr[..], code), ("", 0));
     check_picture(&svg);
     assert!(svg.contains(">no records<"));
+    // Without a title of its own.
+    assert_eq!(name(&svg), "Samples in a slot");
 }

@@ -17,6 +17,8 @@ const LONG_ROWS: usize = 16;
 
 /// What a gap is called.
 pub const NEVER_WRITTEN: &str = "never written";
+/// What the dotted line in a gap is.
+const SMOOTH: &str = "smooth, as the old code drew";
 
 pub struct Chart<'a> {
     pub samples: &'a Samples<'a>,
@@ -59,7 +61,8 @@ impl<'a> Chart<'a> {
         page.lines("title", &title, 24);
         let summary = wrapped(&self.summary(), FONT, page.room(), 4);
         page.lines("muted", &summary, 20);
-        self.legend(panel.has_bridge(), &mut page);
+        let bridged = panel.has_bridge();
+        self.legend(bridged, &mut page);
         let unit = wrapped(&self.arguments.unit, FONT, page.room(), 1);
         page.lines("muted", &unit, 26);
         let thinned = panel.draw(&mut page);
@@ -77,7 +80,7 @@ impl<'a> Chart<'a> {
             page.lines("muted", &note, 18);
         }
         page.space(18);
-        page.to_svg(&self.arguments.title, &self.description())
+        page.to_svg(&self.arguments.title, &self.description(bridged))
     }
 
     /// A time as it is told.
@@ -102,17 +105,21 @@ impl<'a> Chart<'a> {
             counted(count, "record"),
             counted(self.samples.format().record, "byte"),
         );
-        match count - self.survey.points {
-            0 => format!("{when}{records} of {bytes}"),
-            missing => format!(
-                "{when}{records} of {bytes}, {} of them {NEVER_WRITTEN}",
-                grouped(missing as u128)
-            ),
+        let mut words = format!("{when}{records} of {bytes}");
+        let missing = count - self.survey.points;
+        if missing > 0 {
+            let missing = grouped(missing as u128);
+            words += &format!(", {missing} of them {NEVER_WRITTEN}");
         }
+        if let Some(most) = self.samples.format().most_apart {
+            let (breaks, most) = (counted(self.survey.breaks, "break"), grouped(most.into()));
+            words += &format!(", {breaks} where samples are more than {most} s apart");
+        }
+        words
     }
 
     /// The chart in words, for those who do not see it.
-    fn description(&self) -> String {
+    fn description(&self, bridged: bool) -> String {
         let mut words = format!("A chart of samples: {}.", self.summary());
         if let Some((low, high)) = self.survey.values {
             let scale = self.samples.format().scale;
@@ -128,6 +135,9 @@ impl<'a> Chart<'a> {
             let gaps = self.survey.gaps.iter().map(|gap| self.row(gap));
             let gaps: Vec<String> = gaps.collect();
             words += &format!(" The line breaks where nobody wrote: {}.", gaps.join("; "));
+        }
+        if bridged {
+            words += &format!(" The dotted line there is {SMOOTH}.");
         }
         words
     }
@@ -171,7 +181,7 @@ impl<'a> Chart<'a> {
         let entries = [
             ("line", "samples as written", self.survey.points > 0),
             ("gap", NEVER_WRITTEN, !self.survey.gaps.is_empty()),
-            ("old", "what the old code would have shown", bridged),
+            ("old", SMOOTH, bridged),
         ];
         let (key, before_words, between) = (Px::whole(28), Px::whole(36), Px::whole(16));
         // The first one begins a line.

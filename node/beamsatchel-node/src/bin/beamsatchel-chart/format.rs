@@ -10,6 +10,16 @@ pub struct Format {
     pub value: Field,
     pub scale: Scale,
     pub clock: Clock,
+    /// How many seconds neighbouring samples may be apart so that the line goes on, where that is bounded.
+    pub most_apart: Option<u64>,
+}
+
+impl Format {
+    /// Whether the line breaks between neighbouring samples of these times.
+    pub fn breaks(&self, before: i128, after: i128) -> bool {
+        let apart = (after - before).abs();
+        self.most_apart.is_some_and(|most| apart > most.into())
+    }
 }
 
 /// When a record was taken.
@@ -115,11 +125,13 @@ impl Scale {
         let (numerator, denominator) = if let Some((above, below)) = text.split_once('/') {
             (whole(above, 1..=MOST)?, whole(below, 1..=MOST)?)
         } else if let Some((before, behind)) = text.split_once('.') {
-            let power = 10_u64.checked_pow(u32::try_from(behind.len()).ok()?)?;
-            if behind.is_empty() || power > 1_000_000 {
-                return None;
-            }
-            let behind = whole(behind, 0..=MOST)?;
+            whole(behind, 0..=u64::MAX)?;
+            let behind = behind.trim_end_matches('0');
+            let power = match behind.len() {
+                digits @ 0..=6 => 10_u64.pow(digits as u32),
+                _ => return None,
+            };
+            let behind = whole(behind, 0..=MOST).unwrap_or(0);
             let number = whole(before, 0..=MOST)? * power + behind;
             (
                 Some(number).filter(|number| (1..=MOST).contains(number))?,

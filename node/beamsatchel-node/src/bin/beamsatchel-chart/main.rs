@@ -17,12 +17,13 @@ mod ticks;
 mod times;
 
 use arguments::{Arguments, USAGE};
-use beamsatchel_node::layout::{list, MAX_LENGTH};
+use beamsatchel_node::layout::{list, MAGIC, MAX_LENGTH};
 use beamsatchel_node::{Fault, ListFault, ListedContainer, Refusal};
 use chart::Chart;
 use samples::Samples;
 use std::fs::{self, File};
 use std::io::{self, ErrorKind, Read, Write};
+use std::os::unix::fs::MetadataExt;
 use std::path::Path;
 use std::process::ExitCode;
 
@@ -48,14 +49,28 @@ fn main() -> ExitCode {
 }
 
 fn run() -> Result<(), Failure> {
-    if std::env::args_os().skip(1).eq(["--help"]) {
+    let arguments = || std::env::args_os().skip(1);
+    let mut options = arguments().take_while(|argument| argument != "--");
+    if options.any(|option| option == "--help" || option == "-h") {
         return write(None, USAGE);
     }
-    let arguments = Arguments::parse(std::env::args_os().skip(1)).map_err(|fault| {
+    let arguments = Arguments::parse(arguments()).map_err(|fault| {
         Failure::Other(format!("{fault}; beamsatchel-chart --help has the options"))
     })?;
     let container = read(&arguments.container, MAX_LENGTH)?;
     let list = read(&arguments.list, list::LENGTH)?;
+    if let Some(out) = &arguments.out {
+        for (file, what) in [
+            (&arguments.container, "container"),
+            (&arguments.list, "list"),
+        ] {
+            if is_same(out, file) {
+                return Err(Failure::Other(format!(
+                    "--out {out:?} is the {what} itself"
+                )));
+            }
+        }
+    }
     let slot = ListedContainer::open(&container, &list)
         .map_err(|refusal| refused(&arguments, refusal, &container, &list))?;
     let (view, stretches) = match (slot.view(), slot.stretches()) {
@@ -85,6 +100,10 @@ fn refused(arguments: &Arguments, refusal: Refusal, container: &[u8], list: &[u8
     if let Some(fault) = fault {
         words += &format!("\n  {fault}");
     }
+    if list.starts_with(MAGIC) {
+        let list = &arguments.list;
+        words += &format!("\n  {list:?} begins as a container: are the two files swapped?");
+    }
     Failure::Refused(words)
 }
 
@@ -96,11 +115,17 @@ fn read(file: &Path, most: usize) -> Result<Vec<u8>, Failure> {
         .map_err(|error| Failure::Other(format!("{file:?}: {error}")))
 }
 
+/// Whether two paths lead to one file, by links too.
+fn is_same(one: &Path, other: &Path) -> bool {
+    let identity = |file: &Path| fs::metadata(file).map(|file| (file.dev(), file.ino())).ok();
+    identity(one).is_some_and(|one| Some(one) == identity(other))
+}
+
 /// Writes to the file, or to standard output.
 fn write(out: Option<&Path>, text: &str) -> Result<(), Failure> {
     match out {
         Some(file) => {
-            fs::write(file, text).map_err(|error| Failure::Other(format!("{file:?}: {error}")))
+            replace(file, text).map_err(|error| Failure::Other(format!("{file:?}: {error}")))
         }
         None => {
             let mut out = io::stdout().lock();
@@ -111,6 +136,37 @@ fn write(out: Option<&Path>, text: &str) -> Result<(), Failure> {
             })
         }
     }
+}
+
+/// Writes beside the file that is asked for and then puts that in its place, so that a full disk leaves the old one.
+fn replace(file: &Path, text: &str) -> io::Result<()> {
+    let (place, permissions) = match File::options().write(true).open(file) {
+        Ok(mut open) => match open.metadata()? {
+            // A link stays one.
+            old if old.is_file() => (fs::canonicalize(file)?, Some(old.permissions())),
+            // A pipe or a device.
+            _ => return open.write_all(text.as_bytes()),
+        },
+        Err(error) if error.kind() == ErrorKind::NotFound => (file.to_path_buf(), None),
+        Err(error) => return Err(error),
+    };
+    // What an ended process left is passed by.
+    let mut number = std::process::id();
+    let (beside, mut new) = loop {
+        let beside = place.with_file_name(format!(".beamsatchel-chart.{number}"));
+        match File::create_new(&beside) {
+            Err(error) if error.kind() == ErrorKind::AlreadyExists => number += 1,
+            new => break (beside, new?),
+        }
+    };
+    let done = (new.write_all(text.as_bytes()))
+        .and_then(|()| permissions.map_or(Ok(()), |old| new.set_permissions(old)))
+        .and_then(|()| new.sync_all())
+        .and_then(|()| fs::rename(&beside, &place));
+    if done.is_err() {
+        let _ = fs::remove_file(&beside);
+    }
+    done
 }
 
 /// Where standard error cannot be written either, the exit code has to do.

@@ -6,6 +6,9 @@ use std::fmt::Write;
 /// Around the picture.
 pub const MARGIN: Px = Px::whole(20);
 
+/// Stands in an id for what tells it from the ids of other pictures in one page. Escaped text never has it.
+pub const OWN: char = '\0';
+
 /// Light and dark, by what the viewer asks for. No `var()`: not every viewer of SVG has it.
 const STYLE: &str = "
   .bs-chart{color-scheme:light dark;display:block;margin:0 auto;max-width:100%;height:auto;\
@@ -109,7 +112,8 @@ impl Page {
 
     /// A rectangle that is shaded and hatched.
     pub fn hatched(&mut self, x: Px, y: Px, width: Px, height: Px) {
-        for fill in [r#"class="gap""#, r##"fill="url(#bs-hatch)""##] {
+        let hatch = format!(r##"fill="url(#bs-hatch{OWN})""##);
+        for fill in [r#"class="gap""#, &hatch] {
             self.rect(fill, x, y, width, height);
         }
     }
@@ -126,23 +130,31 @@ impl Page {
         writeln!(self.body, "{line}").expect("a string takes all");
     }
 
-    /// The picture, with its name and itself in words.
+    /// The picture, with its name and itself in words. Its ids have a number that follows from all the rest.
     pub fn to_svg(&self, title: &str, description: &str) -> String {
         let (width, height, body) = (self.width, self.y, &self.body);
         let (title, description) = (escaped(title), escaped(description));
-        format!(
-            r#"<svg xmlns="http://www.w3.org/2000/svg" class="bs-chart" role="img" aria-labelledby="bs-title bs-desc" width="{width}" height="{height}" viewBox="0 0 {width} {height}">
-<title id="bs-title">{title}</title>
-<desc id="bs-desc">{description}</desc>
+        let svg = format!(
+            r#"<svg xmlns="http://www.w3.org/2000/svg" class="bs-chart" role="img" aria-labelledby="bs-title{OWN} bs-desc{OWN}" width="{width}" height="{height}" viewBox="0 0 {width} {height}">
+<title id="bs-title{OWN}">{title}</title>
+<desc id="bs-desc{OWN}">{description}</desc>
 <style>{STYLE}</style>
 <defs>
-<pattern id="bs-hatch" patternUnits="userSpaceOnUse" width="8" height="8" patternTransform="rotate(45)">
+<pattern id="bs-hatch{OWN}" patternUnits="userSpaceOnUse" width="8" height="8" patternTransform="rotate(45)">
 <path class="hatch" d="M4,0V8"/>
 </pattern>
 </defs>
 <rect class="paper" width="{width}" height="{height}"/>
 {body}</svg>
 "#
-        )
+        );
+        svg.replace(OWN, &format!("-{:08x}", hash(&svg)))
     }
+}
+
+/// FNV-1a.
+fn hash(text: &str) -> u32 {
+    text.bytes().fold(0x811C_9DC5, |hash, byte| {
+        (hash ^ u32::from(byte)).wrapping_mul(0x0100_0193)
+    })
 }

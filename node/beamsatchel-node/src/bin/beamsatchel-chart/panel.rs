@@ -1,8 +1,8 @@
 //! The plot in the picture: its axes, the line, and the gaps in it.
 
 use crate::chart::{Chart, NEVER_WRITTEN};
-use crate::page::{Anchor, Page, MARGIN};
-use crate::plot::{Dot, Plot};
+use crate::page::{Anchor, Page, MARGIN, OWN};
+use crate::plot::{Dot, Line, Plot};
 use crate::survey::Gap;
 use crate::text::{escaped, width, Px};
 use crate::ticks::FONT;
@@ -46,7 +46,7 @@ impl<'a> Panel<'a> {
         self.plot.x.end + BEHIND
     }
 
-    /// Whether what the old code would have shown is drawn in any gap.
+    /// Whether a smooth line, as the old code drew, is in any gap.
     pub fn has_bridge(&self) -> bool {
         let mut gaps = self.chart.survey.gaps.iter();
         gaps.any(|gap| self.plot.bridge(gap).is_some())
@@ -72,12 +72,12 @@ impl<'a> Panel<'a> {
                 &label,
             );
         }
-        let runs = plot.runs();
-        let drawn: usize = runs.iter().map(Vec::len).sum();
-        if !runs.is_empty() {
-            let line = path(runs.iter());
+        let line = plot.line();
+        let drawn: usize = line.runs.iter().map(Vec::len).sum();
+        if !line.runs.is_empty() {
+            let path = path(line.runs.iter());
             page.add(format_args!(
-                r#"<path id="bs-line" class="line" d="{line}"/>"#
+                r#"<path id="bs-line{OWN}" class="line" d="{path}"/>"#
             ));
         }
         let mut last_number = Px(0);
@@ -92,7 +92,7 @@ impl<'a> Panel<'a> {
                 last_number = middle + half + Px::whole(4);
             }
         }
-        self.ends(&runs, page);
+        self.ends(&line, page);
         page.path("axis", format_args!("M{left},{top}V{bottom}H{right}"));
         if samples.count() == 0 {
             let (x, y) = (middle(&plot.x), middle(&plot.y));
@@ -188,13 +188,14 @@ impl<'a> Panel<'a> {
     }
 
     /// Dots where the line breaks. A run that is too short for a line is drawn above the gaps beside it.
-    fn ends(&self, runs: &[Vec<Dot>], page: &mut Page) {
+    fn ends(&self, line: &Line, page: &mut Page) {
+        let runs = &line.runs;
         let short: Vec<&Vec<Dot>> = runs.iter().filter(|run| is_short(run)).collect();
         if !short.is_empty() {
             page.path("line thin", format_args!("{}", path(short.into_iter())));
         }
         let mut dots = Vec::new();
-        if let [run] = runs {
+        if let [run] = &runs[..] {
             dots.extend(run.first().filter(|_| run.len() == 1));
         }
         for gap in &self.chart.survey.gaps {
@@ -204,6 +205,16 @@ impl<'a> Panel<'a> {
                 dots.extend(beside.map(|point| self.plot.dot(point)));
             }
         }
+        for after in &line.breaks {
+            if let (Some(from), Some(to)) = (runs[after - 1].last(), runs[*after].first()) {
+                if to.x - from.x >= WIDE {
+                    dots.extend([from, to]);
+                }
+            }
+        }
+        // A sample between two breaks ends the line on either side.
+        dots.sort_by_key(|dot| (dot.x, dot.y));
+        dots.dedup_by_key(|dot| (dot.x, dot.y));
         for Dot { x, y, .. } in dots {
             page.add(format_args!(
                 r#"<circle class="dot" cx="{x}" cy="{y}" r="3.5"/>"#

@@ -23,6 +23,14 @@ pub struct Dot {
     value: i128,
 }
 
+/// The line in the picture.
+#[derive(Default)]
+pub struct Line {
+    pub runs: Vec<Vec<Dot>>,
+    /// The numbers of the runs before which nothing is missing: the samples are too far apart.
+    pub breaks: Vec<usize>,
+}
+
 /// The samples of a column of pixels that are kept.
 struct Column {
     low: Dot,
@@ -158,31 +166,37 @@ impl<'a> Plot<'a> {
         start..start + LEAST_GAP
     }
 
-    /// What the old code would have shown in a gap: a straight line from sample to sample.
+    /// The smooth line in a gap, as the old code drew: straight from sample to sample.
     pub fn bridge(&self, gap: &Gap) -> Option<(Dot, Dot)> {
         let (from, to) = (self.dot(gap.before?), self.dot(gap.after?));
         (to.x - from.x >= LEAST_BRIDGE).then_some((from, to))
     }
 
     /// The runs of samples. Of those in one column of pixels the lowest and the highest are kept, and of each run the
-    /// first and the last.
-    pub fn runs(&self) -> Vec<Vec<Dot>> {
-        let mut runs = Vec::new();
+    /// first and the last. Samples in one column stay together, however far apart they are in time.
+    pub fn line(&self) -> Line {
+        let mut line = Line::default();
         let mut run: Vec<Dot> = Vec::new();
         let mut column: Option<Column> = None;
+        let mut last_time = None;
         for record in self.samples.records() {
             let Some(point) = record.point() else {
                 if let Some(column) = column.take() {
-                    column.close(&mut run);
-                    push(&mut run, column.last);
-                    runs.push(std::mem::take(&mut run));
+                    line.runs.push(column.end(&mut run));
                 }
                 continue;
             };
             let dot = self.dot(point);
+            let last_time = last_time.replace(point.time).unwrap_or(point.time);
             match &mut column {
                 Some(column) if column.last.x.0 / 100 == dot.x.0 / 100 => column.take_in(dot),
                 last => {
+                    if self.samples.format().breaks(last_time, point.time) {
+                        if let Some(column) = last.take() {
+                            line.runs.push(column.end(&mut run));
+                            line.breaks.push(line.runs.len());
+                        }
+                    }
                     match last.take() {
                         Some(column) => column.close(&mut run),
                         None => run.push(dot),
@@ -192,11 +206,9 @@ impl<'a> Plot<'a> {
             }
         }
         if let Some(column) = column {
-            column.close(&mut run);
-            push(&mut run, column.last);
-            runs.push(run);
+            line.runs.push(column.end(&mut run));
         }
-        runs
+        line
     }
 }
 
@@ -228,6 +240,13 @@ impl Column {
         };
         push(run, first);
         push(run, second);
+    }
+
+    /// The run that ends with this column.
+    fn end(&self, run: &mut Vec<Dot>) -> Vec<Dot> {
+        self.close(run);
+        push(run, self.last);
+        std::mem::take(run)
     }
 }
 

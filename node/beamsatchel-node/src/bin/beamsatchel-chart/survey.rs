@@ -36,6 +36,8 @@ pub struct Survey {
     /// The first and the last time, which are the lowest and the highest unless the time goes back.
     pub times: Option<(i128, i128)>,
     pub gaps: Vec<Gap>,
+    /// How often neighbouring samples are too far apart for a line.
+    pub breaks: usize,
     /// The first record whose time is before that of an earlier one.
     pub goes_back: Option<usize>,
 }
@@ -74,6 +76,9 @@ impl Survey {
             if let Some(gap) = survey.gaps.last_mut().filter(|_| open) {
                 gap.after = Some(point);
                 open = false;
+            } else if last_point.is_some_and(|last| samples.format().breaks(last.time, point.time))
+            {
+                survey.breaks += 1;
             }
             survey.points += 1;
             let (low, high) = survey.values.unwrap_or((point.value, point.value));

@@ -61,13 +61,18 @@ pub fn escaped(text: &str) -> String {
 
 /// How wide a text is at most in the usual fonts, so that nothing that is placed by it overlaps.
 pub fn width(text: &str, font: i64) -> Px {
-    let hundredths = text.chars().map(|character| match character {
+    let widths = text.chars().map(|character| width_of(character, font).0);
+    Px(widths.sum())
+}
+
+fn width_of(character: char, font: i64) -> Px {
+    let hundredths = match character {
         ' ' | '.' | ',' | ':' | ';' | '\'' | '|' | '!' | 'i' | 'j' | 'l' => 36,
         'm' | 'w' | 'M' | 'W' | '%' | '@' => 98,
         '\u{1100}'.. => 110,
         _ => 64,
-    });
-    Px(font * hundredths.sum::<i64>())
+    };
+    Px(font * hundredths)
 }
 
 /// The text in lines that are not wider, broken between words. What does not fit into the last line is left out.
@@ -97,14 +102,13 @@ fn shortened(text: &str, font: i64, most: Px) -> String {
     if width(text, font) <= most {
         return text.to_string();
     }
-    let mut kept = text.to_string();
-    while kept.pop().is_some() {
-        let short = format!("{}…", kept.trim_end());
-        if width(&short, font) <= most {
-            return short;
-        }
-    }
-    String::new()
+    let mut wide = width_of('…', font);
+    let fits = |character: &char| {
+        wide = wide + width_of(*character, font);
+        wide <= most
+    };
+    let kept: String = text.chars().take_while(fits).collect();
+    format!("{}…", kept.trim_end())
 }
 
 /// A number in digits, with a comma before each three: 65,536.
