@@ -12,15 +12,17 @@ use std::path::{Path, PathBuf};
 use std::process::{ChildStdin, Command, Output, Stdio};
 use std::thread;
 
-const USAGE: &str = "usage: beamsatchel-dump [--secrets] [--data] [--help] [--] FILE...
+const USAGE: &str = "usage: beamsatchel-dump [--secrets] [--data] [--] FILE...
        beamsatchel-dump [--secrets] [--data] --list LIST [--] FILE
+       beamsatchel-dump --help
   --secrets    show write enabler and tokens
   --data       show the data
   --list LIST  show which stretches of the data nobody wrote, by the list in the
                file LIST; in the data their bytes are -- instead of 00
+  --help, -h   show this
 The exit code is 0 when every file holds a well-formed container, and LIST a
-good list beside it, 1 when one is refused, 2 when one cannot be read or the
-words cannot be written.
+good list beside it, 1 when one is refused, 2 when one cannot be read, the
+words cannot be written, or the command line is wrong.
 ";
 
 fn command() -> Command {
@@ -382,9 +384,10 @@ fn a_refused_list_names_the_byte() {
 #[test]
 fn a_list_that_cannot_be_read() {
     let slot = file("no-list", "slot", &fresh(472));
-    let missing = place("no-list", "missing");
+    let [missing, other] = ["missing", "other"].map(|name| place("no-list", name));
     let complaint = format!("{missing:?}: No such file or directory (os error 2)\n");
-    for (list, container) in [(&missing, &slot), (&slot, &missing), (&missing, &missing)] {
+    // Where neither can be read, it is the container that is named.
+    for (list, container) in [(&missing, &slot), (&slot, &missing), (&other, &missing)] {
         let ended = run(&["--list".as_ref(), list.as_os_str(), container.as_os_str()]);
         assert_eq!(ended, (String::new(), complaint.clone(), 2));
     }
@@ -655,7 +658,7 @@ fn a_name_that_begins_with_a_dash() {
 #[test]
 fn a_wrong_command_line() {
     let slot = file("usage", "slot", &fresh(472));
-    let usage = (String::new(), USAGE.to_string(), 2);
+    let usage = |fault: &str| (String::new(), format!("{fault}\n{USAGE}"), 2);
     let no_file = [
         &[][..],
         &["--"],
@@ -664,25 +667,27 @@ fn a_wrong_command_line() {
     ];
     for arguments in no_file {
         let output = command().args(arguments).output().unwrap();
-        assert_eq!(ends(output), usage, "{arguments:?}");
+        assert_eq!(ends(output), usage("FILE is missing"), "{arguments:?}");
     }
     // What is unknown is told before any file is read.
-    for unknown in ["-", "-h", "--secret", "--data=1", "--help"] {
+    for unknown in ["-", "-H", "--secret", "--data=1", "--help=all"] {
         let ended = run(&[slot.as_os_str(), unknown.as_ref()]);
-        assert_eq!(ended, usage, "{unknown}");
+        assert_eq!(ended, usage(&format!("there is no option {unknown:?}")));
     }
     let unknown = OsStr::from_bytes(b"-\xFF");
-    assert_eq!(run(&[slot.as_os_str(), unknown]), usage);
+    let fault = "there is no option \"-\\xFF\"";
+    assert_eq!(run(&[slot.as_os_str(), unknown]), usage(fault));
     // A list stands beside one file, and there is one list.
     let (slot, list) = (slot.as_os_str(), OsStr::new("--list"));
-    for arguments in [
-        &[list][..],
-        &[list, slot],
-        &[slot, list],
-        &[list, slot, slot, slot],
-        &[list, slot, list, slot, slot],
+    for (arguments, fault) in [
+        (&[list][..], "--list needs a file"),
+        (&[slot, list], "--list needs a file"),
+        (&[list, slot, list], "--list needs a file"),
+        (&[list, slot], "FILE is missing"),
+        (&[list, slot, slot, slot], "with --list there is one FILE"),
+        (&[list, slot, list, slot, slot], "--list is given twice"),
     ] {
-        assert_eq!(run(arguments), usage, "{arguments:?}");
+        assert_eq!(run(arguments), usage(fault), "{arguments:?}");
     }
 }
 
@@ -711,6 +716,22 @@ fn a_list_in_any_place() {
 fn help_is_what_was_asked_for() {
     let ended = run(&["--help".as_ref()]);
     assert_eq!(ended, (USAGE.to_string(), String::new(), 0));
+    // Anywhere, whatever else is right or wrong, and also in short.
+    for arguments in [
+        &["-h"][..],
+        &["no file", "--help"],
+        &["--wrong", "-h", "--", "no file"],
+        &["--list", "-h"],
+    ] {
+        let output = command().args(arguments).output().unwrap();
+        assert_eq!(ends(output), ended, "{arguments:?}");
+    }
+    // Behind `--` it is a file.
+    for name in ["--help", "-h"] {
+        let complaint = format!("{name:?}: No such file or directory (os error 2)\n");
+        let output = command().args(["--", name]).output().unwrap();
+        assert_eq!(ends(output), (String::new(), complaint, 2));
+    }
     let full = File::options().write(true).open("/dev/full").unwrap();
     let output = command().arg("--help").stdout(full).output().unwrap();
     assert_eq!(ends(output).2, 2);

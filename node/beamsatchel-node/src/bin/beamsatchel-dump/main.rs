@@ -14,25 +14,32 @@ use std::path::{Path, PathBuf};
 use std::process::ExitCode;
 use words::{dump, Shown};
 
-const USAGE: &str = "usage: beamsatchel-dump [--secrets] [--data] [--help] [--] FILE...
+const USAGE: &str = "usage: beamsatchel-dump [--secrets] [--data] [--] FILE...
        beamsatchel-dump [--secrets] [--data] --list LIST [--] FILE
+       beamsatchel-dump --help
   --secrets    show write enabler and tokens
   --data       show the data
   --list LIST  show which stretches of the data nobody wrote, by the list in the
                file LIST; in the data their bytes are -- instead of 00
+  --help, -h   show this
 The exit code is 0 when every file holds a well-formed container, and LIST a
-good list beside it, 1 when one is refused, 2 when one cannot be read or the
-words cannot be written.
+good list beside it, 1 when one is refused, 2 when one cannot be read, the
+words cannot be written, or the command line is wrong.
 ";
 
 fn main() -> ExitCode {
-    if std::env::args_os().skip(1).eq(["--help"]) {
+    let given = || std::env::args_os().skip(1);
+    let mut options = given().take_while(|argument| argument != "--");
+    if options.any(|option| option == "--help" || option == "-h") {
         let written = io::stdout().write_all(USAGE.as_bytes());
         return ExitCode::from(if written.is_ok() { 0 } else { 2 });
     }
-    let Some(asked) = arguments(std::env::args_os().skip(1)) else {
-        complain(USAGE);
-        return ExitCode::from(2);
+    let asked = match arguments(given()) {
+        Ok(asked) => asked,
+        Err(fault) => {
+            complain(&format!("{fault}\n{USAGE}"));
+            return ExitCode::from(2);
+        }
     };
     let mut out = io::BufWriter::new(io::stdout().lock());
     let dumped = dump_all(&asked, &mut out).and_then(|code| out.flush().map(|()| code));
@@ -56,7 +63,8 @@ struct Asked {
     list: Option<PathBuf>,
 }
 
-fn arguments(mut arguments: impl Iterator<Item = OsString>) -> Option<Asked> {
+/// What is asked for, or what is wrong with the command line.
+fn arguments(mut arguments: impl Iterator<Item = OsString>) -> Result<Asked, String> {
     let mut asked = Asked::default();
     let mut only_files = false;
     while let Some(argument) = arguments.next() {
@@ -65,16 +73,21 @@ fn arguments(mut arguments: impl Iterator<Item = OsString>) -> Option<Asked> {
             b"--" => only_files = true,
             b"--secrets" => asked.shown.secrets = true,
             b"--data" => asked.shown.data = true,
-            b"--list" if asked.list.is_none() => asked.list = Some(arguments.next()?.into()),
-            [b'-', ..] => return None,
+            b"--list" => {
+                let list = arguments.next().ok_or("--list needs a file")?;
+                if asked.list.replace(list.into()).is_some() {
+                    return Err("--list is given twice".to_string());
+                }
+            }
+            [b'-', ..] => return Err(format!("there is no option {argument:?}")),
             _ => asked.files.push(argument.into()),
         }
     }
-    let enough = match asked.list {
-        Some(_) => asked.files.len() == 1,
-        None => !asked.files.is_empty(),
-    };
-    enough.then_some(asked)
+    match (&asked.list, asked.files.len()) {
+        (_, 0) => Err("FILE is missing".to_string()),
+        (Some(_), 2..) => Err("with --list there is one FILE".to_string()),
+        _ => Ok(asked),
+    }
 }
 
 /// Dumps each file; the highest code of all. Only a failure to write stops it.
