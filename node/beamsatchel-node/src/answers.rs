@@ -46,7 +46,8 @@ pub enum Reason {
     NoRoom = 11,
     /// 12: create on a buffer that begins with the magic.
     AlreadyContainer = 12,
-    /// 13: the never-written list would have more than 256 stretches.
+    /// 13: the never-written list would have more than 256 stretches. Fill a stretch first, or cut the data, or go on
+    /// with a list of zeros: what was there then counts as written.
     ListFull = 13,
     /// 16: the never-written list has another length or form, or names a byte outside the data or one that is not zero;
     /// [`ListFault`](crate::ListFault) tells where.

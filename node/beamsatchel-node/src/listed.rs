@@ -10,22 +10,28 @@ use crate::shares::Share;
 use crate::stretches::{judge, Stretches};
 use std::fmt;
 
-/// A slot with its list: a container in a buffer of 472 to 16,777,216 bytes, and beside it 2,052 bytes that name the
-/// stretches of its data that hold zeros only because nobody wrote there.
+/// A slot with its list: a container in a buffer of 472 to 16,777,216 bytes, and beside it 2,052 bytes, which is
+/// [`layout::list::LENGTH`](LENGTH), that name the stretches of its data that hold zeros only because nobody wrote
+/// there.
 ///
 /// Buffer and list may each be lent for writing (`&mut [u8]`), lent for reading (`&[u8]`), or owned, as a
 /// [`Container`]'s buffer. Nothing is kept beside the bytes: whoever stores the slot stores both, and hands both on.
 /// Every call judges both anew, and one that is refused changes neither.
+///
+/// Where the two cannot be stored at once, store them after each request and the list first: beside the old container
+/// it names a byte outside the data (16), or fewer bytes than it could, and never a written one. After 16, go on with
+/// 2,052 zeros; what was there then counts as written.
 ///
 /// A test-and-write that is done brings the list up to date: a gap before a write is listed, what is written is taken
 /// out, and a cut drops what it cuts away. So from a fresh slot on a position is listed exactly when its byte is zero
 /// for want of a write:
 ///
 /// ```
+/// use beamsatchel_node::layout::list::LENGTH;
 /// use beamsatchel_node::{ListedContainer, NodeId, TestAndWrite, WriteEnabler};
 ///
 /// # fn main() -> Result<(), beamsatchel_node::Error> {
-/// let (mut buffer, mut list) = (vec![0; 600], vec![0; 2_052]);
+/// let (mut buffer, mut list) = (vec![0; 600], vec![0; LENGTH]);
 /// let enabler = WriteEnabler::new([0xEE; 32]);
 /// let mut slot = ListedContainer::create(&mut buffer[..], &mut list[..], NodeId([7; 20]), enabler)?;
 ///
@@ -40,7 +46,7 @@ use std::fmt;
 /// // Looking needs both for reading only.
 /// let slot = ListedContainer::open(&buffer, &list)?;
 /// let data = slot.view()?.data();
-/// for stretch in slot.stretches()?.iter() {
+/// for stretch in slot.stretches()? {
 ///     assert!(data[stretch].iter().all(|byte| *byte == 0));
 /// }
 /// # Ok(())
@@ -51,12 +57,13 @@ use std::fmt;
 /// or is refused. So nothing here hands out the plain [`Container`] for writing:
 ///
 /// ```compile_fail
+/// # use beamsatchel_node::layout::list::LENGTH;
 /// # use beamsatchel_node::{Container, ListedContainer, TestAndWrite, WriteEnabler};
 /// fn write(slot: &mut Container<Vec<u8>>, request: &TestAndWrite) {
 ///     assert!(slot.test_and_write(request, &mut []).unwrap().is_done());
 /// }
 /// # let enabler = WriteEnabler::new([1; 32]);
-/// let mut slot = ListedContainer::adopt(vec![0; 600], vec![0; 2_052]);
+/// let mut slot = ListedContainer::adopt(vec![0; 600], vec![0; LENGTH]);
 /// write(&mut slot, &TestAndWrite::new(enabler));
 /// ```
 #[derive(Clone)]
@@ -73,13 +80,14 @@ impl<B: AsRef<[u8]>, L: AsRef<[u8]>> ListedContainer<B, L> {
     /// they say of none of its bytes that nobody wrote it.
     ///
     /// ```
+    /// use beamsatchel_node::layout::list::LENGTH;
     /// use beamsatchel_node::{Container, ListedContainer, NodeId, Reason, WriteEnabler};
     ///
     /// # fn main() -> Result<(), beamsatchel_node::Refusal> {
     /// let slot = Container::create([0; 500], NodeId([7; 20]), WriteEnabler::new([1; 32]))?;
-    /// let refusal = ListedContainer::open(slot.as_bytes(), [1; 2_052]).unwrap_err();
+    /// let refusal = ListedContainer::open(slot.as_bytes(), [1; LENGTH]).unwrap_err();
     /// assert_eq!(refusal.reason, Reason::ListNotGood);
-    /// assert!(ListedContainer::open(slot.as_bytes(), [0; 2_052]).is_ok());
+    /// assert!(ListedContainer::open(slot.as_bytes(), [0; LENGTH]).is_ok());
     /// # Ok(())
     /// # }
     /// ```
@@ -104,7 +112,8 @@ impl<B: AsRef<[u8]>, L: AsRef<[u8]>> ListedContainer<B, L> {
     }
 
     /// Reads pieces of the data, as [`Container::read`]. [`stretches`](ListedContainer::stretches) tells which of their
-    /// bytes nobody wrote.
+    /// bytes nobody wrote. Where an offset counts from the end, the reply does not say where the piece begins: ask
+    /// [`view`](ListedContainer::view) for the size of the data.
     pub fn read<'r>(&self, request: &ReadData, reply: &'r mut [u8]) -> Result<Reply<'r>, Refusal> {
         let raw = ffi::read_listed(
             self.as_bytes(),
@@ -176,13 +185,14 @@ where
     /// [`count`](Answer::count) bytes of the reply space, for [`Reply::new`].
     ///
     /// ```
+    /// use beamsatchel_node::layout::list::LENGTH;
     /// use beamsatchel_node::{ListedContainer, NodeId, Reason, WriteEnabler};
     ///
     /// # fn main() -> Result<(), beamsatchel_node::Refusal> {
     /// let enabler = WriteEnabler::new([1; 32]);
-    /// let slot = ListedContainer::create([0; 472], [0; 2_052], NodeId([7; 20]), enabler)?;
+    /// let slot = ListedContainer::create([0; 472], [0; LENGTH], NodeId([7; 20]), enabler)?;
     /// let (buffer, mut list) = slot.into_parts();
-    /// list[2_051] = 1;
+    /// list[LENGTH - 1] = 1;
     /// // The list is judged before the request.
     /// let mut slot = ListedContainer::adopt(buffer, list);
     /// let refusal = slot.apply(b"no request", &mut []).outcome.unwrap_err();
@@ -200,11 +210,12 @@ where
     /// request is refused with [`Reason::ListFull`].
     ///
     /// ```
+    /// use beamsatchel_node::layout::list::LENGTH;
     /// use beamsatchel_node::{ListedContainer, NodeId, Reason, TestAndWrite, WriteEnabler};
     ///
     /// # fn main() -> Result<(), beamsatchel_node::Error> {
     /// let enabler = WriteEnabler::new([1; 32]);
-    /// let mut slot = ListedContainer::create([0; 2_000], [0; 2_052], NodeId([7; 20]), enabler)?;
+    /// let mut slot = ListedContainer::create([0; 2_000], [0; LENGTH], NodeId([7; 20]), enabler)?;
     /// // Every other byte.
     /// for stretch in 0..256 {
     ///     let request = TestAndWrite::new(enabler).write(2 * stretch + 1, b"!")?;

@@ -5,7 +5,9 @@ use crate::ffi;
 use crate::layout::field;
 use crate::layout::list::{COUNT, ROW, ROWS};
 use std::fmt;
+use std::iter::Map;
 use std::ops::Range;
+use std::slice::ChunksExact;
 
 /// A read of nothing, which asks whether container and list are good.
 const LOOK: [u8; 4] = [5, 0, 0, 0];
@@ -22,11 +24,12 @@ pub(crate) fn judge(container: &[u8], list: &[u8]) -> Result<(), Refusal> {
 /// later, and then what was there before counts as written.
 ///
 /// ```
+/// use beamsatchel_node::layout::list::LENGTH;
 /// use beamsatchel_node::{ListedContainer, NodeId, TestAndWrite, WriteEnabler};
 ///
 /// # fn main() -> Result<(), beamsatchel_node::Error> {
 /// let enabler = WriteEnabler::new([1; 32]);
-/// let mut slot = ListedContainer::create([0; 500], [0; 2_052], NodeId([7; 20]), enabler)?;
+/// let mut slot = ListedContainer::create([0; 500], [0; LENGTH], NodeId([7; 20]), enabler)?;
 /// let request = TestAndWrite::new(enabler).write(3, b"AB")?.write(9, b"\0C")?;
 /// assert!(slot.test_and_write(&request, &mut [])?.is_done());
 ///
@@ -37,6 +40,9 @@ pub(crate) fn judge(container: &[u8], list: &[u8]) -> Result<(), Refusal> {
 /// assert!(stretches.contains(8) && !stretches.contains(9));
 /// assert!(stretches.meets(9..11).is_none());
 /// assert_eq!(stretches.meets(4..7), Some(5..9));
+/// for stretch in stretches {
+///     println!("nobody wrote {stretch:?}");
+/// }
 /// # Ok(())
 /// # }
 /// ```
@@ -46,8 +52,9 @@ pub struct Stretches<'a> {
 }
 
 impl<'a> Stretches<'a> {
-    /// Looks at the list beside a container, where the library judges both good.
-    pub fn open(container: &[u8], list: &'a [u8]) -> Result<Stretches<'a>, Refusal> {
+    /// Looks at the list beside a container, where the library judges both good. Both are borrowed, so that neither
+    /// changes while the stretches are looked at.
+    pub fn open(container: &'a [u8], list: &'a [u8]) -> Result<Stretches<'a>, Refusal> {
         judge(container, list)?;
         let count = u32::from_be_bytes(field(list, COUNT)) as usize;
         let rows = &list[ROWS..ROWS + ROW * count];
@@ -58,7 +65,7 @@ impl<'a> Stretches<'a> {
     pub fn iter(
         &self,
     ) -> impl DoubleEndedIterator<Item = Range<usize>> + ExactSizeIterator + Clone + use<'a> {
-        self.rows.chunks_exact(ROW).map(stretch)
+        self.into_iter()
     }
 
     /// How many stretches there are.
@@ -85,6 +92,26 @@ impl<'a> Stretches<'a> {
     pub fn meets(&self, range: Range<usize>) -> Option<Range<usize>> {
         let mut stretches = self.iter();
         stretches.find(|stretch| stretch.start.max(range.start) < stretch.end.min(range.end))
+    }
+}
+
+/// The stretches, in rising order.
+impl<'a> IntoIterator for Stretches<'a> {
+    type Item = Range<usize>;
+    type IntoIter = Map<ChunksExact<'a, u8>, fn(&'a [u8]) -> Range<usize>>;
+
+    fn into_iter(self) -> Self::IntoIter {
+        self.rows.chunks_exact(ROW).map(stretch)
+    }
+}
+
+/// The stretches, in rising order.
+impl<'a> IntoIterator for &Stretches<'a> {
+    type Item = Range<usize>;
+    type IntoIter = <Stretches<'a> as IntoIterator>::IntoIter;
+
+    fn into_iter(self) -> Self::IntoIter {
+        (*self).into_iter()
     }
 }
 

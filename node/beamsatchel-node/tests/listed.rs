@@ -48,6 +48,58 @@ fn the_table_of_a_list() {
     assert_eq!(LENGTH, ROWS + ROW * MAX_ROWS);
 }
 
+/// A new list beside the old container, as when only the list was stored, is refused or names no written byte.
+#[test]
+fn the_list_is_stored_first() {
+    let mut slot = slot(1_000);
+    let mut seed: u32 = 1;
+    let mut random = |below: u32| {
+        seed = seed.wrapping_mul(1_664_525).wrapping_add(1_013_904_223);
+        (seed >> 16) % below
+    };
+    let (mut refused, mut fewer) = (0, 0);
+    for _ in 0..500 {
+        let old = slot.clone();
+        let named: Vec<_> = old.stretches().unwrap().iter().flatten().collect();
+        let mut request = TestAndWrite::new(ENABLER);
+        for _ in 0..random(3) {
+            let data = vec![random(2) as u8; random(9) as usize];
+            request = request.write(random(80), &data).unwrap();
+        }
+        if random(3) == 0 {
+            request = request.cut(random(80));
+        }
+        send(&mut slot, request);
+        match Stretches::open(old.as_bytes(), slot.list_bytes()) {
+            Ok(stretches) => {
+                assert!(stretches.iter().flatten().all(|byte| named.contains(&byte)));
+                fewer += usize::from(stretches.byte_count() < named.len());
+            }
+            Err(refusal) => {
+                assert_eq!(refusal.reason, Reason::ListNotGood);
+                refused += 1;
+            }
+        }
+    }
+    assert!(refused > 20 && fewer > 20, "{refused} {fewer}");
+}
+
+/// Stretches stand in a loop, lent or handed over, as in the iterator.
+#[test]
+fn stretches_in_a_loop() {
+    let mut slot = slot(600);
+    let written = send(&mut slot, write(3, b"AB").write(9, b"C").unwrap());
+    assert_eq!(written, [0..3, 5..9]);
+    let stretches = slot.stretches().unwrap();
+    let mut looped = Vec::new();
+    for stretch in &stretches {
+        looped.push(stretch);
+    }
+    assert_eq!(looped, written);
+    assert_eq!(stretches.into_iter().collect::<Vec<_>>(), written);
+    assert_eq!(stretches.into_iter().rev().len(), 2);
+}
+
 #[test]
 fn create_writes_both() {
     let created = slot(600);
