@@ -56,8 +56,8 @@ foreign = (1 ∷ 0 ∷ 1 ∷ 0 ∷ []) ++ (digits 4 0 ++ (replicate 32 1 ++ (dig
 -- P58, each beside the empty request: lists of 2,051 bytes, of 2,053 and of none; a count of 257 before 256 rows that are
 -- good beside 514 zeros; a row of length 0; rows that touch, that overlap, that fall; a row that ends behind the data, also
 -- in the slack; one over a byte that is not zero, at its end and at its start; a byte at the list's end, a row behind the
--- last; one whose end is 2^32 or more. Then lists that are
--- good: no rows, up to the data's end, the two stretches of zeros, fewer than there could be.
+-- last; one whose end is 2^32 or more. Then lists that are good: no rows, up to the data's end, the two stretches of
+-- zeros, fewer than there could be.
 abbrev pub refusals : List Beside
 refusals =
     asks fifth (take 2051 freshList) []

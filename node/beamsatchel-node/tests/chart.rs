@@ -1024,7 +1024,7 @@ fn silences() {
         // It is no gap, and has no dotted line.
         assert_eq!((gaps(&svg), svg.matches(r#"class="old""#).count()), (1, 2));
         assert_eq!(svg, draw("silences", &options, &data, &[bytes_of(6..7)]));
-        let told = between(&svg, "1 of them never written, ", " s apart")
+        let told = between(&svg, "1 of them never written, ", " s between samples")
             .first()
             .map(|words| words.to_string());
         let runs: Vec<usize> = line(&svg).iter().map(Vec::len).collect();
@@ -1032,26 +1032,28 @@ fn silences() {
         assert!(description(&svg).contains(&told));
         (runs, told, svg.matches("<circle").count())
     };
-    let words =
-        |breaks: &str, seconds: &str| format!("{breaks} where samples are more than {seconds}");
-    assert_eq!(chart("3600"), (vec![6, 3], words("0 breaks", "3,600"), 2));
-    assert_eq!(chart("3599"), (vec![6, 1, 2], words("1 break", "3,599"), 3));
-    assert_eq!(chart("601"), (vec![6, 1, 2], words("1 break", "601"), 3));
+    let words = |silences: &str, seconds: &str| format!("{silences} of more than {seconds}");
+    assert_eq!(chart("3600"), (vec![6, 3], words("0 silences", "3,600"), 2));
+    assert_eq!(
+        chart("3599"),
+        (vec![6, 1, 2], words("1 silence", "3,599"), 3)
+    );
+    assert_eq!(chart("601"), (vec![6, 1, 2], words("1 silence", "601"), 3));
     // A sample between a silence and a gap, or between two silences, is one dot.
     assert_eq!(
         chart("600"),
-        (vec![5, 1, 1, 2], words("2 breaks", "600"), 4)
+        (vec![5, 1, 1, 2], words("2 silences", "600"), 4)
     );
     assert_eq!(
         chart("599"),
-        (vec![4, 1, 1, 1, 2], words("3 breaks", "599"), 5)
+        (vec![4, 1, 1, 1, 2], words("3 silences", "599"), 5)
     );
     // Breaks of a few pixels have no dots, which would hide them.
-    assert_eq!(chart("59"), (vec![1; 9], words("7 breaks", "59"), 5));
+    assert_eq!(chart("59"), (vec![1; 9], words("7 silences", "59"), 5));
     // Without the option nothing is said, and only the gap breaks the line.
     let svg = draw("silences", &OPTIONS, &data, &[bytes_of(6..7)]);
     let runs: Vec<usize> = line(&svg).iter().map(Vec::len).collect();
-    assert!(runs == [6, 3] && !svg.contains("apart"));
+    assert!(runs == [6, 3] && !svg.contains("between samples<"));
 }
 
 /// The same times count where they go back, and a picture of breaks alone stays small.
@@ -1065,14 +1067,14 @@ fn silences_in_any_order() {
     let (svg, _) = draw_and_hear("silences-back", &options, &data, &[]);
     let runs: Vec<usize> = line(&svg).iter().map(Vec::len).collect();
     assert_eq!(runs, [2, 3]);
-    assert!(svg.contains(">5 records of 8 bytes, 1 break where samples are more than 100 s apart<"));
+    assert!(svg.contains(">5 records of 8 bytes, 1 silence of more than 100 s between samples<"));
     // Every second sample is 255 s behind the one before it.
     let data = [0, 255].repeat(500_000);
     let options = [
         "--record", "1", "--time", "0:u8", "--value", "0:u8", "--break", "254",
     ];
     let (svg, _) = draw_and_hear("silences-back", &options, &data, &[]);
-    assert!(svg.contains(", 999,999 breaks where samples are more than 254 s apart<"));
+    assert!(svg.contains(", 999,999 silences of more than 254 s between samples<"));
     assert!(svg.len() < 100_000, "{}", svg.len());
     assert!((600..=800).contains(&line(&svg).len()));
 }

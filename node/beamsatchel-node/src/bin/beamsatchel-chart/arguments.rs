@@ -32,13 +32,14 @@ When each record was taken, in whole seconds, by one of the two:
                    given, times count from the first record
 
   --break SECONDS  break the line also where the times of neighbouring samples are
-                   more than so many seconds apart; only with --time
+                   more than so many seconds apart and fall into different
+                   columns of pixels; only with --time
 
   --width PIXELS   of the picture, 320 to 4096; 800 where it is not given
   --height PIXELS  of the plot in it, 120 to 2160; 300 where it is not given
   --out FILE       write to FILE, which is replaced when all is written; to
                    standard output where it is - or not given
-  --help, -h       show this
+  --help, -h       show this, wherever it stands before --
 
 A record of which a byte of the value or of the time was never written has no
 point. Runs of such records are shaded and dated, and the dotted line in them is

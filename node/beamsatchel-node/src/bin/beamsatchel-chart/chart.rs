@@ -112,8 +112,8 @@ impl<'a> Chart<'a> {
             words += &format!(", {missing} of them {NEVER_WRITTEN}");
         }
         if let Some(most) = self.samples.format().most_apart {
-            let (breaks, most) = (counted(self.survey.breaks, "break"), grouped(most.into()));
-            words += &format!(", {breaks} where samples are more than {most} s apart");
+            let (silences, most) = (counted(self.survey.breaks, "silence"), grouped(most.into()));
+            words += &format!(", {silences} of more than {most} s between samples");
         }
         words
     }

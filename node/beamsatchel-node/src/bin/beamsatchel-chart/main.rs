@@ -142,7 +142,7 @@ fn write(out: Option<&Path>, text: &str) -> Result<(), Failure> {
 fn replace(file: &Path, text: &str) -> io::Result<()> {
     let (place, permissions) = match File::options().write(true).open(file) {
         Ok(mut open) => match open.metadata()? {
-            // A link stays one.
+            // A link to a file stays one.
             old if old.is_file() => (fs::canonicalize(file)?, Some(old.permissions())),
             // A pipe or a device.
             _ => return open.write_all(text.as_bytes()),
