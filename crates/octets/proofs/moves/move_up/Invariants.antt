@@ -1,0 +1,13 @@
+-- The loop has moved the bytes from j on. It reads at or below the place that it writes, so what it reads is as it was.
+use native.Mathlib.Omega.{arith}
+use mathlib.Core.Path.{◌≡◌, refl, ap, ◌∙◌}
+use Prim.Native.Nat.{◌≤◌, ◌-◌}
+use lib.ListN.{length, length-set}
+use Rattle.octets.proofs.MoveLaws.{up_to, up_start, up_more, up-end}
+use Rattle.octets.proofs.moves.move_up.Given as goal
+
+abbrev pub invariant-loop-j : goal.invariant-loop-j
+invariant-loop-j l = (l.j ≤ l.n) × (length l.b ≡ length l.initial.b) × (l.b ≡ up_to l.initial.b l.from l.to l.n l.j)
+
+abbrev pub decreases-loop-j : goal.decreases-loop-j
+decreases-loop-j l = l.j

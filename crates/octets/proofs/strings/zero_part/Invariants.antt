@@ -1,0 +1,16 @@
+-- The string is zero where the OR so far is 0 and the rest is zero.
+use native.Mathlib.Omega.{arith}
+use mathlib.Core.Path.{◌≡◌, refl, sym, ◌∙◌}
+use mathlib.Core.Bool.{false, cond}
+use Prim.Native.Nat.{◌≤◌, ◌-◌}
+use lib.Dec.{eqb}
+use lib.ListN.{length, drop}
+use Rattle.octets.specs.Strings.{all_zero}
+use Rattle.octets.proofs.StringLaws.{zero_more, zero-end}
+use Rattle.octets.proofs.strings.zero_part.Given as goal
+
+abbrev pub invariant-loop-i : goal.invariant-loop-i
+invariant-loop-i l = (l.i ≤ length l.s) × (all_zero l.s ≡ cond (eqb l.acc 0) (all_zero (drop l.i l.s)) false)
+
+abbrev pub decreases-loop-i : goal.decreases-loop-i
+decreases-loop-i l = length l.s - l.i
