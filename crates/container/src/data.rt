@@ -6,7 +6,7 @@ use format::judging::Judged;
 use format::layout::DATA_AT;
 
 // The outcome's number (0, 1 or 2), and where the data begin and end (both 0 on a refusal).
-#[derive(Drop)]
+#[derive(Clone, Copy)]
 pub struct Lent {
     pub number: u32,
     pub from: usize,
@@ -41,7 +41,7 @@ pub fn find_data(c: &[u8]) -> Lent
 // The data of a well-formed container, that very part of the slice; of any other buffer, nothing, at the slice's start.
 pub fn data_of(c: &[u8]) -> &[u8]
     ensures bytes { result.now ≡ data_lent c.now }
-    ensures place { result.ref_ptr ≡ beyond c.entry.ptr (lent_of c.now).from }
+    ensures place { result.ref_ptr ≡ beyond c.entry.ref_ptr (lent_of c.now).from }
 {
     let lent = find_data(c);
     let a = lent.from;

@@ -12,14 +12,14 @@ use crate::layout::{
 };
 
 // Outcome 1, outcome 2, or a well-formed container's frame.
-#[derive(Drop)]
+#[derive(Clone, Copy)]
 pub enum Judged {
     BadLength,
     Malformed,
     Formed(Frame),
 }
 
-#[derive(Drop)]
+#[derive(Clone, Copy)]
 enum Fields {
     Disagree,
     Agree(Frame),

@@ -13,7 +13,7 @@ use crate::places::{Found, count_leases, find, find_vacant};
 use format::layout::{CANCEL_AT, Frame, LEASE_LIMIT, RENEWAL_AT};
 
 // The outcome's number, and the leases present after the request where it is 0.
-#[derive(Drop)]
+#[derive(Clone, Copy)]
 pub struct Done {
     pub number: u32,
     pub count: usize,

@@ -8,7 +8,7 @@ ghost use Rattle.leases.specs.Places.{has_token, found_of};
 
 use format::layout::{FIXED_PLACES, Frame, LEASES_AT, RECORD_SIZE, SECRET_SIZE};
 
-#[derive(Drop)]
+#[derive(Clone, Copy)]
 pub(crate) enum Found {
     At(usize),
     Nowhere,

@@ -16,7 +16,7 @@ use requests::offsets::resolve;
 use writes::sizes::grown;
 
 // How many rows the table has, and the size of the data, after the writes.
-#[derive(Drop)]
+#[derive(Clone, Copy)]
 struct Followed {
     count: usize,
     size: usize,

@@ -14,7 +14,7 @@ pub const ROW_SIZE: usize = 8;
 pub const TABLE_SIZE: usize = ROW_SIZE * 273;
 
 // The positions from one up to another, which is not among them; none where it is not above.
-#[derive(Drop)]
+#[derive(Clone, Copy)]
 pub struct Span {
     pub from: usize,
     pub to: usize,

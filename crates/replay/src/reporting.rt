@@ -5,7 +5,7 @@ use libc::{STDERR_FILENO, STDOUT_FILENO};
 use replaying::items::Fault;
 
 // Why a run stops at a line.
-#[derive(Drop)]
+#[derive(Clone, Copy)]
 pub(crate) enum Why {
     // The line breaks the layout.
     Layout(Fault),

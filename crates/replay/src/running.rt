@@ -24,7 +24,7 @@ const LAST_OUTCOME: u32 = 16;
 // What lines before this one have set: the lengths of the container, the request, the node id and the enabler, which
 // stand at the front of their buffers; whether this container has answered, and its last answer; the requests of
 // the file so far. A length never exceeds its buffer; `clip` spares the proof of it.
-#[derive(Drop)]
+#[derive(Clone, Copy)]
 struct State {
     open: bool,
     length: usize,
@@ -36,14 +36,14 @@ struct State {
     requests: u64,
 }
 
-#[derive(Drop)]
+#[derive(Clone, Copy)]
 enum Step {
     On(State),
     Stop(Why),
 }
 
 // How many requests a file had, or that the run has stopped with its message.
-#[derive(Drop)]
+#[derive(Clone, Copy)]
 pub(crate) enum Ran {
     Done(u64),
     Stopped,

@@ -9,7 +9,7 @@ use crate::numerals::Decimal;
 use crate::scanning::Sort;
 use crate::{items, numerals, scanning};
 
-#[derive(Drop)]
+#[derive(Clone, Copy)]
 pub enum Word {
     Buffer,
     Load,
@@ -26,7 +26,7 @@ pub enum Word {
 }
 
 // A line: nothing to do, a word and the position behind it, or why not.
-#[derive(Drop)]
+#[derive(Clone, Copy)]
 pub enum Command {
     Nothing,
     Do(Word, usize),
@@ -34,7 +34,7 @@ pub enum Command {
 }
 
 // The one number of a line, or why not.
-#[derive(Drop)]
+#[derive(Clone, Copy)]
 pub enum Argument {
     Number(u32),
     Bad(Fault),

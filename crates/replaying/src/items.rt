@@ -13,7 +13,7 @@ use crate::{numerals, scanning};
 const MOST_REPEATS: u32 = 65540;
 
 // Why a line is refused.
-#[derive(Drop)]
+#[derive(Clone, Copy)]
 pub enum Fault {
     CarriageReturn,
     Word,
@@ -30,7 +30,7 @@ pub enum Fault {
 }
 
 // What stands next on a line; each but the first and the last ends with the position behind it.
-#[derive(Drop)]
+#[derive(Clone, Copy)]
 pub(crate) enum Item {
     End,
     // A byte and how often.
@@ -43,14 +43,14 @@ pub(crate) enum Item {
 }
 
 // After an item: the positions in the text and in the buffer, the count of all, or why not.
-#[derive(Drop)]
+#[derive(Clone, Copy)]
 enum Step {
     On(usize, usize),
     Done(usize),
     Bad(Fault),
 }
 
-#[derive(Drop)]
+#[derive(Clone, Copy)]
 pub enum Put {
     Done(usize),
     Bad(Fault),

@@ -6,14 +6,14 @@ use crate::scanning;
 use crate::scanning::Sort;
 
 // A decimal number: no digit, a value above the bound, which it names, or the value and the position behind it.
-#[derive(Drop)]
+#[derive(Clone, Copy)]
 pub(crate) enum Decimal {
     Missing,
     TooLarge(u32),
     Value(u32, usize),
 }
 
-#[derive(Drop)]
+#[derive(Clone, Copy)]
 pub(crate) enum Pair {
     Missing,
     Byte(u8),

@@ -3,7 +3,7 @@ ghost use Rattle.std.specs.Prelude.{◌≡◌, ◌+◌, ◌≤◌, length, drop}
 ghost use Rattle.replaying.specs.Scanning.{is_of, run};
 
 // Which bytes a run is made of: any but this one, this one alone, decimal digits.
-#[derive(Drop)]
+#[derive(Clone, Copy)]
 pub enum Sort {
     But(u8),
     Only(u8),

@@ -12,7 +12,7 @@ use requests::offsets::resolve;
 pub const LENGTH_SIZE: usize = 4;
 
 // What a table asks, in numbers: whether every offset resolves, and the length of the reply.
-#[derive(Drop)]
+#[derive(Clone, Copy)]
 pub struct Measured {
     pub resolves: bool,
     pub length: usize,

@@ -23,25 +23,25 @@ pub(crate) const HEADER_SIZE: usize = 7;
 
 pub(crate) const READ_HEADER_SIZE: usize = 3;
 
-#[derive(Drop)]
+#[derive(Clone, Copy)]
 pub struct Cursor {
     pub at: usize,
 }
 
-#[derive(Drop)]
+#[derive(Clone, Copy)]
 pub struct Byte {
     pub value: u8,
     pub next: Cursor,
 }
 
-#[derive(Drop)]
+#[derive(Clone, Copy)]
 pub(crate) struct Number {
     pub(crate) value: u32,
     pub(crate) next: Cursor,
 }
 
 // A run of bytes: where it begins and ends.
-#[derive(Drop)]
+#[derive(Clone, Copy)]
 pub struct Body {
     pub from: usize,
     pub to: usize,
@@ -49,7 +49,7 @@ pub struct Body {
 }
 
 // An entry's offset and length.
-#[derive(Drop)]
+#[derive(Clone, Copy)]
 pub struct Entry {
     pub offset: i32,
     pub count: usize,
@@ -57,7 +57,7 @@ pub struct Entry {
 }
 
 // A test's entry.
-#[derive(Drop)]
+#[derive(Clone, Copy)]
 pub struct TestEntry {
     pub entry: Entry,
     pub opcode: u8,
@@ -67,7 +67,7 @@ pub struct TestEntry {
 }
 
 // What follows the kind of a test-and-write, up to its enabler.
-#[derive(Drop)]
+#[derive(Clone, Copy)]
 pub(crate) struct Header {
     pub(crate) tests: usize,
     pub(crate) writes: usize,
@@ -77,7 +77,7 @@ pub(crate) struct Header {
 }
 
 // What follows the kind of a read, up to its table.
-#[derive(Drop)]
+#[derive(Clone, Copy)]
 pub(crate) struct ReadHeader {
     pub(crate) reads: usize,
     pub(crate) first: u8,
@@ -86,7 +86,7 @@ pub(crate) struct ReadHeader {
 }
 
 // Where a lease record stands, and of its fields those that an add asks for.
-#[derive(Drop)]
+#[derive(Clone, Copy)]
 pub struct Record {
     pub owner: u32,
     pub expiry: u32,

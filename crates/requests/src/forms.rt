@@ -23,7 +23,7 @@ const TESTS_AT: usize = 1 + HEADER_SIZE + SECRET_SIZE;
 const READS_AT: usize = 1 + READ_HEADER_SIZE;
 
 // A table: its first entry, how many there are, and how far apart they stand.
-#[derive(Drop)]
+#[derive(Clone, Copy)]
 pub struct Table {
     pub first: Cursor,
     pub count: usize,
@@ -31,7 +31,7 @@ pub struct Table {
 }
 
 // Whether data is cut, and to which length.
-#[derive(Drop)]
+#[derive(Clone, Copy)]
 pub struct Cut {
     pub set: bool,
     pub length: usize,
@@ -39,7 +39,7 @@ pub struct Cut {
 
 // A test-and-write taken apart: specimens and new data stand one after the other from their cursors on. What has a
 // fixed size travels as a cursor alone, here and in `Form`: its reader names the size, and so the compiler knows it.
-#[derive(Drop)]
+#[derive(Clone, Copy)]
 pub struct Parted {
     pub enabler: Cursor,
     pub tests: Table,
@@ -49,7 +49,7 @@ pub struct Parted {
     pub cut: Cut,
 }
 
-#[derive(Drop)]
+#[derive(Clone, Copy)]
 pub enum Form {
     Broken,
     TestWrite(Parted),
@@ -61,7 +61,7 @@ pub enum Form {
 
 // What passing over a table of tests finds: whether every entry is good, the specimens' lengths added up, the place
 // after.
-#[derive(Drop)]
+#[derive(Clone, Copy)]
 pub(crate) struct TestsPassed {
     pub(crate) good: bool,
     pub(crate) length: usize,
@@ -69,7 +69,7 @@ pub(crate) struct TestsPassed {
 }
 
 // The same of a table of writes: the new data's lengths added up.
-#[derive(Drop)]
+#[derive(Clone, Copy)]
 pub(crate) struct WritesPassed {
     pub(crate) length: usize,
     pub(crate) next: Cursor,

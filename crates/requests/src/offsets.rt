@@ -3,7 +3,7 @@ ghost use Rattle.std.specs.Prelude.{◌≡◌};
 ghost use Rattle.requests.specs.Offsets.{resolved_of};
 
 // Whether an offset names a position, and which (0 where it names none).
-#[derive(Drop)]
+#[derive(Clone, Copy)]
 pub struct Resolved {
     pub resolves: bool,
     pub position: usize,

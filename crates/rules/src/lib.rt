@@ -3,7 +3,7 @@ pub mod answers;
 
 // The answer record: the outcome's number, a node id (the container's on 5, else zeros) and a count.
 #[repr(C)]
-#[derive(Drop)]
+#[derive(Clone, Copy)]
 pub struct Answer {
     pub number: u32,
     pub node: [u8; format::layout::NODE_SIZE],

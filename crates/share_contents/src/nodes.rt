@@ -10,7 +10,7 @@ use share_format::header::HASH_SIZE;
 pub(crate) const CHAIN_ENTRY_SIZE: usize = 2 + HASH_SIZE;
 
 // The tree over n shares or segments: its depth c, the least with 2^c at or above n, and its 2^c leaves.
-#[derive(Drop)]
+#[derive(Clone, Copy)]
 pub(crate) struct Over {
     pub(crate) depth: usize,
     pub(crate) leaves: u64,

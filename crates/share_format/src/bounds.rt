@@ -29,7 +29,7 @@ pub fn in_order(bounds: &[u64], least: &[u64]) -> bool
 pub fn part(s: &[u8], bounds: [u64; 8], i: usize) -> &[u8]
     requires { (i < 7) × PartInside bounds (length s.now) i }
     ensures bytes { result.now ≡ part_of i bounds s.now }
-    ensures place { result.ref_ptr ≡ (s.entry.ptr.0, s.entry.ptr.1 + get_or bounds i 0) }
+    ensures place { result.ref_ptr ≡ (s.entry.ref_ptr.0, s.entry.ref_ptr.1 + get_or bounds i 0) }
 {
     let a = bounds[i] as usize;
     let e = bounds[i + 1] as usize;

@@ -9,7 +9,7 @@ ghost use Rattle.share_numbers.specs.Coding.{coding_ok, segment_ok};
 const LARGEST: u64 = 18446744073709551615;
 
 // The least multiple of k at or above n, and whether it fits 64 bits; 0 where it does not.
-#[derive(Drop)]
+#[derive(Clone, Copy)]
 pub struct Multiple {
     pub fits: bool,
     pub value: u64,

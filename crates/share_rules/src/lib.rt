@@ -3,7 +3,7 @@
 
 // The outcome's number, and on 0 the share's length.
 #[repr(C)]
-#[derive(Drop)]
+#[derive(Clone, Copy)]
 pub struct Written {
     pub number: u32,
     pub length: u64,

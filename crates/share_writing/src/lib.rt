@@ -80,7 +80,7 @@ fn bounds_fit(mdmf: bool, bounds: [u64; 8]) -> bool
 }
 
 // What the rows say of a share: the number and, on 0, the segment size and the boundaries of the parts.
-#[derive(Drop)]
+#[derive(Clone, Copy)]
 pub(crate) struct Verdict {
     pub(crate) number: u32,
     pub(crate) segment: u64,

@@ -18,7 +18,7 @@ pub const MDMF: u32 = header::MDMF_VERSION as u32;
 // The outcome's number, the edition, and the boundaries of the parts (all 0 on a refusal). SDMF has six parts, so that
 // its last two boundaries are the same.
 #[repr(C)]
-#[derive(Drop)]
+#[derive(Clone, Copy)]
 pub struct Checked {
     pub number: u32,
     pub edition: u32,
@@ -102,7 +102,7 @@ fn part(s: &[u8], in_sdmf: usize, in_mdmf: usize) -> &[u8]
     ensures bytes { result.now
         ≡ share_part (by_edition (edition_of s.now) in_sdmf in_mdmf) s.now }
     ensures place { result.ref_ptr
-        ≡ beyond s.entry.ptr
+        ≡ beyond s.entry.ref_ptr
         (part_at (by_edition (edition_of s.now) in_sdmf in_mdmf) s.now) }
 {
     let checked = check(s);
@@ -115,7 +115,7 @@ fn part(s: &[u8], in_sdmf: usize, in_mdmf: usize) -> &[u8]
 pub fn key(s: &[u8]) -> &[u8]
     ensures bytes { result.now ≡ share_part (key_part (edition_of s.now)) s.now }
     ensures place { result.ref_ptr
-        ≡ beyond s.entry.ptr (part_at (key_part (edition_of s.now)) s.now) }
+        ≡ beyond s.entry.ref_ptr (part_at (key_part (edition_of s.now)) s.now) }
 {
     part(s, parts::SDMF_KEY, parts::MDMF_KEY)
 }
@@ -123,7 +123,7 @@ pub fn key(s: &[u8]) -> &[u8]
 pub fn signature(s: &[u8]) -> &[u8]
     ensures bytes { result.now ≡ share_part (signature_part (edition_of s.now)) s.now }
     ensures place { result.ref_ptr
-        ≡ beyond s.entry.ptr (part_at (signature_part (edition_of s.now)) s.now) }
+        ≡ beyond s.entry.ref_ptr (part_at (signature_part (edition_of s.now)) s.now) }
 {
     part(s, parts::SDMF_SIGNATURE, parts::MDMF_SIGNATURE)
 }
@@ -131,7 +131,7 @@ pub fn signature(s: &[u8]) -> &[u8]
 pub fn chain(s: &[u8]) -> &[u8]
     ensures bytes { result.now ≡ share_part (chain_part (edition_of s.now)) s.now }
     ensures place { result.ref_ptr
-        ≡ beyond s.entry.ptr (part_at (chain_part (edition_of s.now)) s.now) }
+        ≡ beyond s.entry.ref_ptr (part_at (chain_part (edition_of s.now)) s.now) }
 {
     part(s, parts::SDMF_CHAIN, parts::MDMF_CHAIN)
 }
@@ -139,7 +139,7 @@ pub fn chain(s: &[u8]) -> &[u8]
 pub fn tree(s: &[u8]) -> &[u8]
     ensures bytes { result.now ≡ share_part (tree_part (edition_of s.now)) s.now }
     ensures place { result.ref_ptr
-        ≡ beyond s.entry.ptr (part_at (tree_part (edition_of s.now)) s.now) }
+        ≡ beyond s.entry.ref_ptr (part_at (tree_part (edition_of s.now)) s.now) }
 {
     part(s, parts::SDMF_TREE, parts::MDMF_TREE)
 }
@@ -147,7 +147,7 @@ pub fn tree(s: &[u8]) -> &[u8]
 pub fn share_data(s: &[u8]) -> &[u8]
     ensures bytes { result.now ≡ share_part (share_data_part (edition_of s.now)) s.now }
     ensures place { result.ref_ptr
-        ≡ beyond s.entry.ptr (part_at (share_data_part (edition_of s.now)) s.now) }
+        ≡ beyond s.entry.ref_ptr (part_at (share_data_part (edition_of s.now)) s.now) }
 {
     part(s, parts::SDMF_SHARE_DATA, parts::MDMF_SHARE_DATA)
 }
@@ -155,7 +155,7 @@ pub fn share_data(s: &[u8]) -> &[u8]
 pub fn private_key(s: &[u8]) -> &[u8]
     ensures bytes { result.now ≡ share_part (private_key_part (edition_of s.now)) s.now }
     ensures place { result.ref_ptr
-        ≡ beyond s.entry.ptr (part_at (private_key_part (edition_of s.now)) s.now) }
+        ≡ beyond s.entry.ref_ptr (part_at (private_key_part (edition_of s.now)) s.now) }
 {
     part(s, parts::SDMF_PRIVATE_KEY, parts::MDMF_PRIVATE_KEY)
 }
@@ -163,7 +163,7 @@ pub fn private_key(s: &[u8]) -> &[u8]
 pub fn spare(s: &[u8]) -> &[u8]
     ensures bytes { result.now ≡ share_part (spare_part (edition_of s.now)) s.now }
     ensures place { result.ref_ptr
-        ≡ beyond s.entry.ptr (part_at (spare_part (edition_of s.now)) s.now) }
+        ≡ beyond s.entry.ref_ptr (part_at (spare_part (edition_of s.now)) s.now) }
 {
     part(s, parts::SDMF_SPARE, parts::MDMF_SPARE)
 }
@@ -173,7 +173,7 @@ fn container_part(c: &[u8], in_sdmf: usize, in_mdmf: usize) -> &[u8]
     ensures bytes { result.now
         ≡ container_part (by_edition (edition_of (data_lent c.now)) in_sdmf in_mdmf) c.now }
     ensures place { result.ref_ptr
-        ≡ beyond c.entry.ptr
+        ≡ beyond c.entry.ref_ptr
         (container_part_at (by_edition (edition_of (data_lent c.now)) in_sdmf in_mdmf) c.now) }
 {
     let checked = check_container(c);
@@ -186,7 +186,7 @@ pub fn container_key(c: &[u8]) -> &[u8]
     ensures bytes { result.now
         ≡ container_part (key_part (edition_of (data_lent c.now))) c.now }
     ensures place { result.ref_ptr
-        ≡ beyond c.entry.ptr
+        ≡ beyond c.entry.ref_ptr
         (container_part_at (key_part (edition_of (data_lent c.now))) c.now) }
 {
     container_part(c, parts::SDMF_KEY, parts::MDMF_KEY)
@@ -196,7 +196,7 @@ pub fn container_signature(c: &[u8]) -> &[u8]
     ensures bytes { result.now
         ≡ container_part (signature_part (edition_of (data_lent c.now))) c.now }
     ensures place { result.ref_ptr
-        ≡ beyond c.entry.ptr
+        ≡ beyond c.entry.ref_ptr
         (container_part_at (signature_part (edition_of (data_lent c.now))) c.now) }
 {
     container_part(c, parts::SDMF_SIGNATURE, parts::MDMF_SIGNATURE)
@@ -206,7 +206,7 @@ pub fn container_chain(c: &[u8]) -> &[u8]
     ensures bytes { result.now
         ≡ container_part (chain_part (edition_of (data_lent c.now))) c.now }
     ensures place { result.ref_ptr
-        ≡ beyond c.entry.ptr
+        ≡ beyond c.entry.ref_ptr
         (container_part_at (chain_part (edition_of (data_lent c.now))) c.now) }
 {
     container_part(c, parts::SDMF_CHAIN, parts::MDMF_CHAIN)
@@ -216,7 +216,7 @@ pub fn container_tree(c: &[u8]) -> &[u8]
     ensures bytes { result.now
         ≡ container_part (tree_part (edition_of (data_lent c.now))) c.now }
     ensures place { result.ref_ptr
-        ≡ beyond c.entry.ptr
+        ≡ beyond c.entry.ref_ptr
         (container_part_at (tree_part (edition_of (data_lent c.now))) c.now) }
 {
     container_part(c, parts::SDMF_TREE, parts::MDMF_TREE)
@@ -226,7 +226,7 @@ pub fn container_share_data(c: &[u8]) -> &[u8]
     ensures bytes { result.now
         ≡ container_part (share_data_part (edition_of (data_lent c.now))) c.now }
     ensures place { result.ref_ptr
-        ≡ beyond c.entry.ptr
+        ≡ beyond c.entry.ref_ptr
         (container_part_at (share_data_part (edition_of (data_lent c.now))) c.now) }
 {
     container_part(c, parts::SDMF_SHARE_DATA, parts::MDMF_SHARE_DATA)
@@ -236,7 +236,7 @@ pub fn container_private_key(c: &[u8]) -> &[u8]
     ensures bytes { result.now
         ≡ container_part (private_key_part (edition_of (data_lent c.now))) c.now }
     ensures place { result.ref_ptr
-        ≡ beyond c.entry.ptr
+        ≡ beyond c.entry.ref_ptr
         (container_part_at (private_key_part (edition_of (data_lent c.now))) c.now) }
 {
     container_part(c, parts::SDMF_PRIVATE_KEY, parts::MDMF_PRIVATE_KEY)
@@ -246,7 +246,7 @@ pub fn container_spare(c: &[u8]) -> &[u8]
     ensures bytes { result.now
         ≡ container_part (spare_part (edition_of (data_lent c.now))) c.now }
     ensures place { result.ref_ptr
-        ≡ beyond c.entry.ptr
+        ≡ beyond c.entry.ref_ptr
         (container_part_at (spare_part (edition_of (data_lent c.now))) c.now) }
 {
     container_part(c, parts::SDMF_SPARE, parts::MDMF_SPARE)

@@ -9,7 +9,7 @@ const LARGEST: u64 = 18446744073709551615;
 
 // What a case gives a writer: numbers, parts by their lengths, the chain's last node number, the length of the space.
 // SDMF has no segment size and no spare bytes, MDMF no IV.
-#[derive(Drop)]
+#[derive(Clone, Copy)]
 struct Given {
     mdmf: bool,
     sequence: u64,

@@ -17,7 +17,7 @@ use rules::answers::answer;
 use upkeep_rules::LeaseRow;
 
 // A lease's row, and the place behind it, from which the next lease is looked for.
-#[derive(Drop)]
+#[derive(Clone, Copy)]
 pub struct Leased {
     pub row: LeaseRow,
     pub next: usize,

@@ -4,7 +4,7 @@ use format::layout::{NODE_SIZE, SECRET_SIZE};
 
 // One lease in an audit's table: the five fields of its record.
 #[repr(C)]
-#[derive(Drop)]
+#[derive(Clone, Copy)]
 pub struct LeaseRow {
     pub owner: u32,
     pub expiry: u32,

@@ -18,7 +18,7 @@ use requests::cursors::Cursor;
 use requests::forms::Parted;
 
 // The outcome's number, the reply's length and the final size of the data.
-#[derive(Drop)]
+#[derive(Clone, Copy)]
 pub struct Verdict {
     pub number: u32,
     pub reply: usize,

@@ -11,14 +11,14 @@ use requests::forms::{Cut, Parted};
 use requests::offsets::resolve;
 
 // Whether every offset resolves, each on the size that the writes before it give, and the size after all of them.
-#[derive(Drop)]
+#[derive(Clone, Copy)]
 pub struct Reached {
     pub resolves: bool,
     pub size: usize,
 }
 
 // The same, and where the last gap ends that they leave on the way: behind it they cover all that they add.
-#[derive(Drop)]
+#[derive(Clone, Copy)]
 struct Walked {
     resolves: bool,
     size: usize,
