@@ -1,9 +1,7 @@
 -- The loop has made the first i bytes 0.
 use native.Mathlib.Omega.{arith}
-use mathlib.Core.Path.{◌≡◌, refl, ◌∙◌}
-use mathlib.Core.List.{◌++◌}
-use Prim.Native.Nat.{◌≤◌, ◌-◌}
-use lib.ListN.{length, drop, replicate, length-set}
+use mathlib.Core.Path.{refl, ◌∙◌}
+use lib.ListN.{length-set}
 use borrow.Author.Fill.{fill_more}
 use Rattle.octets.proofs.MoveLaws.{fill_end}
 use Rattle.octets.proofs.moves.clear.Goals as goal

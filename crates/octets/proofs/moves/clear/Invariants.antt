@@ -1,11 +1,8 @@
 -- The loop has made the first i bytes 0.
-use native.Mathlib.Omega.{arith}
-use mathlib.Core.Path.{◌≡◌, refl, ◌∙◌}
+use mathlib.Core.Path.{◌≡◌}
 use mathlib.Core.List.{◌++◌}
 use Prim.Native.Nat.{◌≤◌, ◌-◌}
-use lib.ListN.{length, drop, replicate, length-set}
-use borrow.Author.Fill.{fill_more}
-use Rattle.octets.proofs.MoveLaws.{fill_end}
+use lib.ListN.{length, drop, replicate}
 use Rattle.octets.proofs.moves.clear.Given as goal
 
 abbrev pub invariant-loop-i : goal.invariant-loop-i

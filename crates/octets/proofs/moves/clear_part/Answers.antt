@@ -5,7 +5,6 @@ use lib.ListN.{length, replicate, length-replicate}
 use Prim.Native.Nat.{ℕ, ◌+◌, ◌-◌}
 use borrow.Rule.Slice.PartMut.{mid_len}
 use Rattle.octets.proofs.MoveLaws.{part_back}
-use borrow.Author.Rules.{rules}
 use Rattle.octets.proofs.moves.clear_part.Goals as goal
 
 pub returns : goal.returns

@@ -1,9 +1,7 @@
 -- The loop has made the first i bytes those of s.
 use native.Mathlib.Omega.{arith}
-use mathlib.Core.Path.{◌≡◌, refl, ◌∙◌}
-use mathlib.Core.List.{◌++◌}
-use Prim.Native.Nat.{◌≤◌, ◌-◌}
-use lib.ListN.{length, take, drop, length-set}
+use mathlib.Core.Path.{refl, ◌∙◌}
+use lib.ListN.{length-set}
 use Rattle.octets.proofs.MoveLaws.{copy_more, copy_end}
 use Rattle.octets.proofs.moves.copy.Goals as goal
 

@@ -1,10 +1,8 @@
 -- The loop has made the first i bytes those of s.
-use native.Mathlib.Omega.{arith}
-use mathlib.Core.Path.{◌≡◌, refl, ◌∙◌}
+use mathlib.Core.Path.{◌≡◌}
 use mathlib.Core.List.{◌++◌}
 use Prim.Native.Nat.{◌≤◌, ◌-◌}
-use lib.ListN.{length, take, drop, length-set}
-use Rattle.octets.proofs.MoveLaws.{copy_more, copy_end}
+use lib.ListN.{length, take, drop}
 use Rattle.octets.proofs.moves.copy.Given as goal
 
 abbrev pub invariant-loop-i : goal.invariant-loop-i

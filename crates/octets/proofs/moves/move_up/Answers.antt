@@ -1,8 +1,8 @@
 -- The loop has moved the bytes from j on. It reads at or below the place that it writes, so what it reads is as it was.
 use native.Mathlib.Omega.{arith}
-use mathlib.Core.Path.{◌≡◌, refl, ap, ◌∙◌}
-use Prim.Native.Nat.{◌≤◌, ◌-◌}
-use lib.ListN.{length, length-set}
+use mathlib.Core.Path.{refl, ap, ◌∙◌}
+use Prim.Native.Nat.{◌-◌}
+use lib.ListN.{length-set}
 use Rattle.octets.proofs.MoveLaws.{up_to, up_start, up_more, up-end}
 use Rattle.octets.proofs.moves.move_up.Goals as goal
 

@@ -1,9 +1,8 @@
 -- The loop has moved the bytes from j on. It reads at or below the place that it writes, so what it reads is as it was.
-use native.Mathlib.Omega.{arith}
-use mathlib.Core.Path.{◌≡◌, refl, ap, ◌∙◌}
-use Prim.Native.Nat.{◌≤◌, ◌-◌}
-use lib.ListN.{length, length-set}
-use Rattle.octets.proofs.MoveLaws.{up_to, up_start, up_more, up-end}
+use mathlib.Core.Path.{◌≡◌}
+use Prim.Native.Nat.{◌≤◌}
+use lib.ListN.{length}
+use Rattle.octets.proofs.MoveLaws.{up_to}
 use Rattle.octets.proofs.moves.move_up.Given as goal
 
 abbrev pub invariant-loop-j : goal.invariant-loop-j

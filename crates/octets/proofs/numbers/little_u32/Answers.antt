@@ -1,7 +1,6 @@
 -- Four bytes one by one.
 use mathlib.Core.Path.{sym, ◌∙◌}
 use Rattle.octets.proofs.LittleLaws.{little_four}
-use borrow.Author.Rules.{rules}
 use Rattle.octets.proofs.numbers.little_u32.Goals as goal
 
 pub returns : goal.returns

@@ -2,7 +2,6 @@
 use native.Mathlib.Omega.{arith}
 use lib.ListN.{length-set}
 use Rattle.octets.proofs.NumberLaws.{put_four}
-use borrow.Author.Rules.{rules}
 use Rattle.octets.proofs.numbers.put_u32.Goals as goal
 
 pub bounds-d-at-2 : goal.bounds-d-at-2

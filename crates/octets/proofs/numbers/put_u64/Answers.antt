@@ -5,7 +5,6 @@ use Prim.Native.Nat.{◌+◌, ◌/◌, ◌%◌}
 use Rattle.octets.specs.Moves.{put}
 use Rattle.octets.specs.Numbers.{digits}
 use Rattle.octets.proofs.NumberLaws.{put-join}
-use borrow.Author.Rules.{rules}
 use Rattle.octets.proofs.numbers.put_u64.Goals as goal
 
 pub returns : goal.returns

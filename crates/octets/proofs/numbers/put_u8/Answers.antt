@@ -2,7 +2,6 @@
 use native.Mathlib.Omega.{arith}
 use mathlib.Core.List.{[], ◌∷◌}
 use lib.Seq.{sets-eq}
-use borrow.Author.Rules.{rules}
 use Rattle.octets.proofs.numbers.put_u8.Goals as goal
 
 pub returns : goal.returns

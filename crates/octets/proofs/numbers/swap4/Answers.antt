@@ -1,6 +1,5 @@
 -- The digits are taken off one by one.
 use Rattle.octets.proofs.LittleLaws.{little_swap}
-use borrow.Author.Rules.{rules}
 use Rattle.octets.proofs.numbers.swap4.Goals as goal
 
 pub returns : goal.returns

@@ -2,7 +2,6 @@
 use native.Mathlib.Omega.{arith}
 use Prim.Native.Nat.{◌+◌}
 use Rattle.octets.proofs.NumberLaws.{number_at-one, number_at_split}
-use borrow.Author.Rules.{rules}
 use Rattle.octets.proofs.numbers.u16_at.Goals as goal
 
 pub returns : goal.returns

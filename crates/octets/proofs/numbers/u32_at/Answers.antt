@@ -8,7 +8,6 @@ use Rattle.octets.specs.Numbers.{number_at, digits}
 use Rattle.octets.specs.Little.{little_number}
 use Rattle.octets.proofs.LittleLaws.{little_digits}
 use Rattle.octets.proofs.StringLaws.{octets_take, octets_drop}
-use borrow.Author.Rules.{rules}
 use Rattle.octets.proofs.numbers.u32_at.Goals as goal
 
 pub returns : goal.returns

@@ -1,7 +1,6 @@
 -- The number in two neighbouring stretches.
 use native.Mathlib.Omega.{arith}
 use Rattle.octets.proofs.NumberLaws.{number_at_split}
-use borrow.Author.Rules.{rules}
 use Rattle.octets.proofs.numbers.u64_at.Goals as goal
 
 pub returns : goal.returns

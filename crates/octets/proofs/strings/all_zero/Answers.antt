@@ -2,8 +2,8 @@
 use native.Mathlib.Omega.{arith}
 use mathlib.Core.Path.{◌≡◌, refl, sym, ap, ◌∙◌}
 use mathlib.Core.Bool.{Bool, true, false, cond}
-use Prim.Native.Nat.{◌≤◌, ◌-◌, ◌+◌}
-use lib.ListN.{length, drop}
+use Prim.Native.Nat.{◌-◌, ◌+◌}
+use lib.ListN.{drop}
 use Rattle.octets.specs.Strings.{all_zero}
 use Rattle.octets.proofs.StringLaws.{zero_block, tail_is}
 use Rattle.octets.proofs.strings.all_zero.Goals as goal
@@ -16,7 +16,7 @@ loop-i-preserved c =
     let by-block : (t : Bool) → c.zero_part.result ≡ t
     → let s = c.args.s.now in
     all_zero s ≡ cond t (all_zero (drop (c.loop-i.i + 64) s)) false =
-    λ t e.     let i = c.loop-i.i in
+    λ t e. let i = c.loop-i.i in
     let k : i + 64 - i ≡ 64 = omega arith in
     c.loop-i.invariant.2 ∙ zero_block c.args.s.now i 64 ∙ sym (rw (← e, c.zero_part.ensures, k)) in
     (refl, omega arith, by-block true c.if-zero_part.true)
@@ -26,7 +26,7 @@ returns-else-zero_part c =
     let by-block : (t : Bool) → c.zero_part.result ≡ t
     → let s = c.args.s.now in
     all_zero s ≡ cond t (all_zero (drop (c.loop-i.i + 64) s)) false =
-    λ t e.     let i = c.loop-i.i in
+    λ t e. let i = c.loop-i.i in
     let k : i + 64 - i ≡ 64 = omega arith in
     c.loop-i.invariant.2 ∙ zero_block c.args.s.now i 64 ∙ sym (rw (← e, c.zero_part.ensures, k)) in
     sym (by-block false c.if-zero_part.false)

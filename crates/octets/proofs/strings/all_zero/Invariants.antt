@@ -1,11 +1,8 @@
 -- The blocks passed over are zero, so the whole is zero where the rest is.
-use native.Mathlib.Omega.{arith}
-use mathlib.Core.Path.{◌≡◌, refl, sym, ap, ◌∙◌}
-use mathlib.Core.Bool.{Bool, true, false, cond}
-use Prim.Native.Nat.{◌≤◌, ◌-◌, ◌+◌}
+use mathlib.Core.Path.{◌≡◌}
+use Prim.Native.Nat.{◌≤◌, ◌-◌}
 use lib.ListN.{length, drop}
 use Rattle.octets.specs.Strings.{all_zero}
-use Rattle.octets.proofs.StringLaws.{zero_block, tail_is}
 use Rattle.octets.proofs.strings.all_zero.Given as goal
 
 abbrev pub invariant-loop-i : goal.invariant-loop-i

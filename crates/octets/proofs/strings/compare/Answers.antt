@@ -1,13 +1,13 @@
 -- The blocks passed over are equal, so the order is that of the rests.
 use mathlib.Core.Bool.{true}
 use mathlib.Core.Path.{◌≡◌, refl, sym, ◌∙◌}
-use Prim.Native.Nat.{◌+◌, ◌-◌, ◌≤◌}
+use Prim.Native.Nat.{◌+◌, ◌-◌}
 use native.Mathlib.Omega.{arith}
-use lib.ListN.{length, take, drop, length-take, length-drop}
+use lib.ListN.{take, drop, length-take, length-drop}
 use mir.Syntax.{w32}
 use mir.ValLaws.{to_z-of_z}
 use borrow.Author.Rules.{rules}
-use Rattle.octets.specs.Strings.{same, order}
+use Rattle.octets.specs.Strings.{same}
 use Rattle.octets.proofs.StringLaws.{order_block, order-tail}
 use Rattle.octets.proofs.strings.compare.Goals as goal
 

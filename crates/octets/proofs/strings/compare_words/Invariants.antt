@@ -1,13 +1,8 @@
 -- The words passed over are equal, so the order is that of the rests.
-use mathlib.Core.Path.{◌≡◌, refl, sym, ◌∙◌}
-use Prim.Native.Nat.{◌+◌, ◌-◌, ◌≤◌}
-use native.Mathlib.Omega.{arith}
+use mathlib.Core.Path.{◌≡◌}
+use Prim.Native.Nat.{◌-◌, ◌≤◌}
 use lib.ListN.{length, drop}
-use mir.Syntax.{w32}
-use mir.ValLaws.{to_z-of_z}
-use borrow.Author.Rules.{rules}
 use Rattle.octets.specs.Strings.{order}
-use Rattle.octets.proofs.StringLaws.{by, by_less, by-more, by-same, order_word, order-tail}
 use Rattle.octets.proofs.strings.compare_words.Given as goal
 
 abbrev pub invariant-loop-i : goal.invariant-loop-i

@@ -1,11 +1,6 @@
 -- The strings are equal where the OR of the XORs so far is 0 and the rests are equal.
 use native.Mathlib.Omega.{arith}
-use mathlib.Core.Path.{◌≡◌, refl, sym, ◌∙◌}
-use mathlib.Core.Bool.{false, cond}
-use Prim.Native.Nat.{◌≤◌, ◌-◌}
-use lib.Dec.{eqb}
-use lib.ListN.{length, drop}
-use Rattle.octets.specs.Strings.{same}
+use mathlib.Core.Path.{refl, sym, ◌∙◌}
 use Rattle.octets.proofs.StringLaws.{same_more, same_end}
 use Rattle.octets.proofs.strings.same.Goals as goal
 

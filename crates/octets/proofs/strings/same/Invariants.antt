@@ -1,12 +1,10 @@
 -- The strings are equal where the OR of the XORs so far is 0 and the rests are equal.
-use native.Mathlib.Omega.{arith}
-use mathlib.Core.Path.{◌≡◌, refl, sym, ◌∙◌}
+use mathlib.Core.Path.{◌≡◌}
 use mathlib.Core.Bool.{false, cond}
 use Prim.Native.Nat.{◌≤◌, ◌-◌}
 use lib.Dec.{eqb}
 use lib.ListN.{length, drop}
 use Rattle.octets.specs.Strings.{same}
-use Rattle.octets.proofs.StringLaws.{same_more, same_end}
 use Rattle.octets.proofs.strings.same.Given as goal
 
 abbrev pub invariant-loop-i : goal.invariant-loop-i

@@ -1,11 +1,6 @@
 -- The string is zero where the OR so far is 0 and the rest is zero.
 use native.Mathlib.Omega.{arith}
-use mathlib.Core.Path.{◌≡◌, refl, sym, ◌∙◌}
-use mathlib.Core.Bool.{false, cond}
-use Prim.Native.Nat.{◌≤◌, ◌-◌}
-use lib.Dec.{eqb}
-use lib.ListN.{length, drop}
-use Rattle.octets.specs.Strings.{all_zero}
+use mathlib.Core.Path.{refl, sym, ◌∙◌}
 use Rattle.octets.proofs.StringLaws.{zero_more, zero-end}
 use Rattle.octets.proofs.strings.zero_part.Goals as goal
 
