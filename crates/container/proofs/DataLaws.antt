@@ -18,7 +18,7 @@ use Rattle.format.proofs.RoundTrip.{data_field}
 use Rattle.format.proofs.WellFormed.{data_length_lem, formed_facts, used_is}
 use Rattle.rules.proofs.OutcomeLaws.{formed_length}
 use Rattle.format.proofs.JudgingLaws.{judged_formed, judged-length, judged-malformed, length_unformed}
-use Rattle.format.proofs.KnownLaws.{frame-size}
+use Rattle.format.proofs.KnownLaws.{frame_size}
 
 pub beyond_is : (p : ℕ × ℕ) (n : ℕ) → ◌≡◌ {A = ℕ × ℕ} (p.0, n + p.1) (beyond p n)
 beyond_is p n = rw add_comm
@@ -96,4 +96,4 @@ pub lent_formed : (c : List ℕ) (f : Frame) (e : ℕ) → Judges c (Formed f) �
 unfolding lent_of first_row
 lent_formed c f e j k =
     let h = judged_formed c f j in
-    rw (formed_length c h.formed, h.formed, k, frame-size h)
+    rw (formed_length c h.formed, h.formed, k, frame_size h)

@@ -74,19 +74,19 @@ no_reply p (cancel t) l = refl
 no_reply p (read rs) l = absurd l
 
 module _ (c q : List ℕ) (w : Request) (f : well_formed c ≡ true) (is : request_of q ≡ some w) (l : LeaseRequest w) where
-  outcome-is : (r : List ℕ) → outcome c q (length r) ≡ lease_outcome (parts_of c) w
-  outcome-is r = outcome_formed c q (length r) f ∙ rw is (outcome-lease (parts_of c) w (length r) l)
+  outcome_is : (r : List ℕ) → outcome c q (length r) ≡ lease_outcome (parts_of c) w
+  outcome_is r = outcome_formed c q (length r) f ∙ rw is (outcome-lease (parts_of c) w (length r) l)
 
   pub lease-answered : (d : Done) → d ≡ lease_done (parts_of c) w → (r : List ℕ) → answer_of d.number no_node d.count
       ≡ answered c q r
   unfolding answered answer_to lease_done
   lease-answered d e r =
       let n = plain (parts_of c) w l in
-      rw (e, outcome-is r, is, n.no_node_holds, n.only_done)
+      rw (e, outcome_is r, is, n.no_node_holds, n.only_done)
 
-  pub lease-container : (r : List ℕ) → lease_container c w ≡ container_after c q r
+  pub lease_container_lem : (r : List ℕ) → lease_container c w ≡ container_after c q r
   unfolding container_after lease_container after_of maybe
-  lease-container r = rw (outcome-is r, is)
+  lease_container_lem r = rw (outcome_is r, is)
 
   pub lease_reply : (r : List ℕ) → r ≡ reply_after c q r
   unfolding reply_after reply_bytes maybe
@@ -100,4 +100,4 @@ module _ (c q : List ℕ) (w : Request) (f : well_formed c ≡ true) (is : reque
   pub lease-results : (d : Done) (e r : List ℕ) (x : Answer) → d ≡ lease_done (parts_of c) w → e ≡ lease_container c w
       → x ≡ answer_of d.number no_node d.count
       → (x ≡ answered c q r) × ((e ≡ container_after c q r) × (r ≡ reply_after c q r))
-  lease-results d e r x i j k = (k ∙ lease-answered d i r, (j ∙ lease-container r, lease_reply r))
+  lease-results d e r x i j k = (k ∙ lease-answered d i r, (j ∙ lease_container_lem r, lease_reply r))

@@ -88,21 +88,21 @@ module _ (c q r : List ℕ) (f : well_formed c ≡ true) (o : Octets c) where
   empty-kept : container_after c [] r ≡ c
   empty-kept = sym (broken c [] r f empty-broken).container
 
-  formed-kept : (w : Option Request) → request_of q ≡ w → container_after c (read_bytes w q) r ≡ c
+  formed_kept : (w : Option Request) → request_of q ≡ w → container_after c (read_bytes w q) r ≡ c
   unfolding read_bytes
-  formed-kept none e = empty-kept
-  formed-kept (some (test_write k ts ws cut)) e = empty-kept
-  formed-kept (some (add l)) e = empty-kept
-  formed-kept (some (renew t x)) e = empty-kept
-  formed-kept (some (cancel t)) e = empty-kept
-  formed-kept (some (read rs)) e = read_container c q r rs f o e
+  formed_kept none e = empty-kept
+  formed_kept (some (test_write k ts ws cut)) e = empty-kept
+  formed_kept (some (add l)) e = empty-kept
+  formed_kept (some (renew t x)) e = empty-kept
+  formed_kept (some (cancel t)) e = empty-kept
+  formed_kept (some (read rs)) e = read_container c q r rs f o e
 
 kept : (c q r : List ℕ) → Octets c → container_after c (read_of q) r ≡ c
 unfolding read_of
 kept c q r o = go (length_allowed c) (well_formed c) refl refl
   where
     go : (l w : Bool) → length_allowed c ≡ l → well_formed c ≡ w → container_after c (read_bytes (request_of q) q) r ≡ c
-    go l true a f = formed-kept c q r f o (request_of q) refl
+    go l true a f = formed_kept c q r f o (request_of q) refl
     go true false a f = sym (malformed c (read_bytes (request_of q) q) r a f).container
     go false false a f = sym (bad_length c (read_bytes (request_of q) q) r a).container
 

@@ -16,35 +16,35 @@ use Rattle.format.specs.Container.{length_allowed}
 use Rattle.format.specs.Parts.{count_in, used, extras, encode, no_lease, fresh}
 use Rattle.rules.specs.Outcomes.{answer_of, no_node, create_outcome, create_answer, created_container}
 use Rattle.octets.specs.Rows.{first_row}
-use Rattle.octets.proofs.MoveLaws.{put-append_zeros, zeros_split}
+use Rattle.octets.proofs.MoveLaws.{put_append_zeros, zeros_split}
 use Rattle.format.proofs.RoundTrip.{encode_flat}
 use Rattle.rules.specs.declared.Answer.{Answer}
 
 -- ---- the ways out: the answer, and the buffer afterwards
 module _ (c node enabler : List ℕ) (x : Answer) where
-  pub create-length : length_allowed c ≡ false → x ≡ answer_of 1 no_node 0 → (x ≡ create_answer c node enabler)
+  pub create_length : length_allowed c ≡ false → x ≡ answer_of 1 no_node 0 → (x ≡ create_answer c node enabler)
       × (c ≡ created_container c node enabler)
   unfolding create_answer created_container create_outcome first_row
-  create-length h e = (rw (h, e), rw h)
+  create_length h e = (rw (h, e), rw h)
 
-  pub create-lengths : length_allowed c ≡ true → (eqb (length node) node_size && eqb (length enabler) secret_size) ≡ false
+  pub create_lengths : length_allowed c ≡ true → (eqb (length node) node_size && eqb (length enabler) secret_size) ≡ false
       → x ≡ answer_of 3 no_node 0
       → (x ≡ create_answer c node enabler) × (c ≡ created_container c node enabler)
   unfolding create_answer created_container create_outcome first_row
-  create-lengths h k e = (rw (h, k, e), rw (h, k))
+  create_lengths h k e = (rw (h, k, e), rw (h, k))
 
-  pub create-magic : length_allowed c ≡ true → length node ≡ node_size → length enabler ≡ secret_size
+  pub create_magic : length_allowed c ≡ true → length node ≡ node_size → length enabler ≡ secret_size
       → same (take node_at c) magic ≡ true → x ≡ answer_of 12 no_node 0
       → (x ≡ create_answer c node enabler) × (c ≡ created_container c node enabler)
   unfolding create_answer created_container create_outcome first_row
-  create-magic h n k m e = (rw (h, eq-eqb _ _ n, eq-eqb _ _ k, m, e), rw (h, eq-eqb _ _ n, eq-eqb _ _ k, m))
+  create_magic h n k m e = (rw (h, eq-eqb _ _ n, eq-eqb _ _ k, m, e), rw (h, eq-eqb _ _ n, eq-eqb _ _ k, m))
 
-  pub create-done : (c' : List ℕ) → length_allowed c ≡ true → length node ≡ node_size → length enabler ≡ secret_size
+  pub create_done : (c' : List ℕ) → length_allowed c ≡ true → length node ≡ node_size → length enabler ≡ secret_size
       → same (take node_at c) magic ≡ false → x ≡ answer_of 0 no_node 0
       → c' ≡ encode (fresh (length c) node enabler) → (x ≡ create_answer c node enabler)
       × (c' ≡ created_container c node enabler)
   unfolding create_answer created_container create_outcome first_row
-  create-done c' h n k m e f = (rw (h, eq-eqb _ _ n, eq-eqb _ _ k, m, e), rw (h, eq-eqb _ _ n, eq-eqb _ _ k, m) f)
+  create_done c' h n k m e f = (rw (h, eq-eqb _ _ n, eq-eqb _ _ k, m, e), rw (h, eq-eqb _ _ n, eq-eqb _ _ k, m) f)
 
 -- ---- the stores
 -- The stores that make a fresh container of n zeros.
@@ -54,14 +54,14 @@ module _ (n : ℕ) (m node enabler o : List ℕ) (room : least ≤ n) (lm : leng
       ≡ ((m ++ node) ++ enabler) ++ replicate (n - size_at) 0
   put-head =
       let l : length (m ++ node) ≡ enabler_at = length-append m node ∙ omega arith in
-      let p = put-append_zeros 0 n (n - node_at) m [] refl (omega arith) in
-      let q = put-append_zeros node_at (n - node_at) (n - enabler_at) node m lm (omega arith) in
-      let r = put-append_zeros enabler_at (n - enabler_at) (n - size_at) enabler (m ++ node) l (omega arith) in
+      let p = put_append_zeros 0 n (n - node_at) m [] refl (omega arith) in
+      let q = put_append_zeros node_at (n - node_at) (n - enabler_at) node m lm (omega arith) in
+      let r = put_append_zeros enabler_at (n - enabler_at) (n - size_at) enabler (m ++ node) l (omega arith) in
       rw (p, q, r)
 
-  put-offset : put offset_at o (((m ++ node) ++ enabler) ++ replicate (n - size_at) 0)
+  put_offset : put offset_at o (((m ++ node) ++ enabler) ++ replicate (n - size_at) 0)
       ≡ ((((m ++ node) ++ enabler) ++ replicate size_width 0) ++ o) ++ replicate (n - leases_at) 0
-  put-offset =
+  put_offset =
       let h : List ℕ = (m ++ node) ++ enabler in
       let l : length (h ++ replicate size_width 0) ≡ offset_at = simp (length-append, length-replicate) (omega arith) in
       let k : n - size_at ≡ size_width + (n - offset_at) = omega arith in
@@ -71,11 +71,11 @@ module _ (n : ℕ) (m node enabler o : List ℕ) (room : least ≤ n) (lm : leng
         ← append_assoc h (replicate size_width 0)
             (replicate (n - offset_at) 0),
       )
-      (put-append_zeros offset_at (n - offset_at) (n - leases_at) o (h ++ replicate size_width 0) l (omega arith))
+      (put_append_zeros offset_at (n - offset_at) (n - leases_at) o (h ++ replicate size_width 0) l (omega arith))
 
-  zeros-end : replicate {A = ℕ} (n - leases_at) 0
+  zeros_end : replicate {A = ℕ} (n - leases_at) 0
       ≡ replicate (fixed_places * record_size) 0 ++ (replicate count_size 0 ++ replicate (n - least) 0)
-  zeros-end =
+  zeros_end =
       let k : n - leases_at ≡ fixed_places * record_size + (count_size + (n - least)) = omega arith in
       rw (k, zeros_split (fixed_places * record_size) (count_size + (n - least)), zeros_split count_size (n - least))
 
@@ -86,7 +86,7 @@ module _ (n : ℕ) (m node enabler o : List ℕ) (room : least ≤ n) (lm : leng
       ++ (replicate size_width 0
       ++ (o
       ++ (replicate (fixed_places * record_size) 0 ++ (replicate count_size 0 ++ replicate (n - least) 0))))))
-  put_all = rw (put-head, put-offset, zeros-end) (simp append_assoc)
+  put_all = rw (put-head, put_offset, zeros_end) (simp append_assoc)
 
 pub fresh-bytes : (n : ℕ) (node enabler : List ℕ) → least ≤ n → length node ≡ node_size → length enabler ≡ secret_size
     → put offset_at (digits size_width data_at) (put enabler_at enabler (put node_at node (put 0 magic (replicate n 0))))

@@ -97,15 +97,15 @@ module _ (p q : Parts) (v : Valid p) (w : Valid q) (i : ℕ) where
       same_at (encode p) (encode q) size_at size_width i
       ((written p v).size ∙ ap (digits size_width) e ∙ sym (written q w).size) h k
 
-  pub same-offset : count_in p ≡ count_in q → offset_at ≤ i → i < leases_at → get_or (encode p) i 0 ≡ get_or (encode q) i 0
-  same-offset e h k =
+  pub same_offset : count_in p ≡ count_in q → offset_at ≤ i → i < leases_at → get_or (encode p) i 0 ≡ get_or (encode q) i 0
+  same_offset e h k =
       same_at (encode p) (encode q) offset_at size_width i
       ((written p v).offset ∙ ap (digits size_width) e ∙ sym (written q w).offset) h k
 
   -- from the data's beginning on, where the count, the leases and the buffer's length are the same
-  pub same-behind : count_in p ≡ count_in q → p.leases ≡ q.leases → p.room ≡ q.room → data_at ≤ i →
+  pub same_behind : count_in p ≡ count_in q → p.leases ≡ q.leases → p.room ≡ q.room → data_at ≤ i →
       get_or p.bytes (i - data_at) 0 ≡ get_or q.bytes (i - data_at) 0 → get_or (encode p) i 0 ≡ get_or (encode q) i 0
-  same-behind e l m h d =
+  same_behind e l m h d =
       let ends : length (loose p.bytes p.slack) ≡ length (loose q.bytes q.slack) =
       rw (length-append p.bytes, length-append q.bytes, length-replicate {A = ℕ}, length-replicate {A = ℕ})
       (omega (arith, count_is p, count_is q)) in
@@ -120,9 +120,9 @@ module _ (p q : Parts) (v : Valid p) (w : Valid q) (i : ℕ) where
 
 module _ (b c : List ℕ) where
   -- magic, node id and enabler
-  pub same-front : well_formed b ≡ true → well_formed c ≡ true → node_of b ≡ node_of c → enabler_of b ≡ enabler_of c
+  pub same_front : well_formed b ≡ true → well_formed c ≡ true → node_of b ≡ node_of c → enabler_of b ≡ enabler_of c
       → (i : ℕ) → i < size_at → get_or b i 0 ≡ get_or c i 0
-  same-front wb wc n e i h =
+  same_front wb wc n e i h =
       let m : (x : List ℕ) → well_formed x ≡ true → take node_at x ≡ magic =
       λ x w. same-eq (take node_at x) magic (formed_facts x w).fields.magical in
       same_at b c 0 size_at i
@@ -132,7 +132,7 @@ module _ (b c : List ℕ) where
       (omega arith) h
 
   -- the four lease places
-  pub same-four : leases_of b ≡ leases_of c → (i : ℕ) → leases_at ≤ i → i < data_at → get_or b i 0 ≡ get_or c i 0
-  same-four l i h k =
+  pub same_four : leases_of b ≡ leases_of c → (i : ℕ) → leases_at ≤ i → i < data_at → get_or b i 0 ≡ get_or c i 0
+  same_four l i h k =
       same_at b c leases_at (fixed_places * record_size) i
       (four_field b ∙ ap (λ (ls : List (List ℕ)). join (take fixed_places ls)) l ∙ sym (four_field c)) h k

@@ -13,8 +13,8 @@ use Rattle.format.specs.Layout.{data_of, extras_of, records, leases_of, count_si
 use Rattle.format.specs.Layout.{node_size, secret_size, size_width, extras_at}
 use Rattle.format.specs.Parts.{Parts, extras, count_in, used, parts_of, encode}
 use Rattle.format.specs.Claims.{OctetParts, RoundTrip}
-use Rattle.octets.proofs.ListLaws.{each_append, each_take, each-drop}
-use Rattle.format.proofs.RoundTrip.{encode_parts, parts_valid, parts-encode, encode-formed, parts_determine}
+use Rattle.octets.proofs.ListLaws.{each_append, each_take, each_drop}
+use Rattle.format.proofs.RoundTrip.{encode_parts, parts_valid, parts_encode, encode_formed, parts_determine}
 use Rattle.format.proofs.RoundTrip.{encode_flat}
 
 -- ---- strings made of bytes
@@ -51,7 +51,7 @@ octets_encode p o =
     let more : List ℕ = join (drop fixed_places p.leases) in
     let f : Octets four = octets_join (take fixed_places p.leases) (each_take Octets fixed_places p.leases
     o.leases) in
-    let m : Octets more = octets_join (drop fixed_places p.leases) (each-drop Octets fixed_places p.leases
+    let m : Octets more = octets_join (drop fixed_places p.leases) (each_drop Octets fixed_places p.leases
     o.leases) in
     let rest : List (List ℕ) = four ∷ p.bytes ∷ replicate p.slack 0 ∷ digits count_size e ∷ more ∷ [] in
     let h : Each Octets rest = (f, (o.bytes, (octets_zeros p.slack, (octets_digits count_size e, (m, tt))))) in
@@ -80,8 +80,8 @@ pub round_trip : RoundTrip
 round_trip = record {
   bytes = encode_parts;
   valid = parts_valid;
-  parts = parts-encode;
-  formed = encode-formed;
+  parts = parts_encode;
+  formed = encode_formed;
   determined = parts_determine;
   octets = octets_encode;
   octet_parts = octets_parts;

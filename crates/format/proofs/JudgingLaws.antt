@@ -186,18 +186,18 @@ unfolding well_formed
 judge_fields c h k = unformed c h (rw (h, k))
 
 module _ (c : List ℕ) (f : Frame) (l : length_allowed c ≡ true) (found : Agree f ≡ fields_found c) where
-  by-contents : (t : Bool) → contents_ok c ≡ t → well_formed c ≡ t
+  by_contents : (t : Bool) → contents_ok c ≡ t → well_formed c ≡ t
   unfolding well_formed
-  by-contents t k = rw (l, (found_agree c f found).agree, k)
+  by_contents t k = rw (l, (found_agree c f found).agree, k)
 
-  pub judge-formed : contents_ok c ≡ true → Judges c (Formed f)
+  pub judge_formed : contents_ok c ≡ true → Judges c (Formed f)
   unfolding first_row
-  judge-formed k =
-      let w : well_formed c ≡ true = by-contents true k in
+  judge_formed k =
+      let w : well_formed c ≡ true = by_contents true k in
       record { number = rw (l, w); frame = rw w (ap some (found_agree c f found).is) }
 
-  pub judge-contents : contents_ok c ≡ false → Judges c Malformed
-  judge-contents k = unformed c l (by-contents false k)
+  pub judge_contents : contents_ok c ≡ false → Judges c Malformed
+  judge_contents k = unformed c l (by_contents false k)
 
 -- ---- what an answer of `judge` means
 pub judged_formed : (c : List ℕ) (f : Frame) → Judges c (Formed f) → Known c f

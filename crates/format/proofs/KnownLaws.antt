@@ -23,38 +23,38 @@ leases_extras c = omega (arith, length_leases c)
 
 module _ {c : List ℕ} {f : Frame} (K : Known c f) where
   -- The frame's numbers, as the fields have them.
-  pub frame-size : f.size ≡ size_of c
-  frame-size = ap (λ (x : Frame). x.size) K.is
+  pub frame_size : f.size ≡ size_of c
+  frame_size = ap (λ (x : Frame). x.size) K.is
 
-  pub frame-count : f.offset ≡ count_at c
-  frame-count = ap (λ (x : Frame). x.offset) K.is
+  pub frame_count : f.offset ≡ count_at c
+  frame_count = ap (λ (x : Frame). x.offset) K.is
 
-  pub frame-extras : f.extras ≡ extras_of c
-  frame-extras = ap (λ (x : Frame). x.extras) K.is
+  pub frame_extras : f.extras ≡ extras_of c
+  frame_extras = ap (λ (x : Frame). x.extras) K.is
 
   -- The same, as the parts have them.
-  pub data-framed : length (data_of c) ≡ f.size
-  data-framed = data_length_lem c K.formed ∙ sym frame-size
+  pub data_framed : length (data_of c) ≡ f.size
+  data_framed = data_length_lem c K.formed ∙ sym frame_size
 
-  pub extras-framed : extras (leases_of c) ≡ f.extras
-  extras-framed = leases_extras c ∙ sym frame-extras
+  pub extras_framed : extras (leases_of c) ≡ f.extras
+  extras_framed = leases_extras c ∙ sym frame_extras
 
-  pub known-room : (data_at + f.size ≤ f.offset) × (f.offset + count_size + record_size * f.extras ≤ length c)
+  pub known_room : (data_at + f.size ≤ f.offset) × (f.offset + count_size + record_size * f.extras ≤ length c)
       × (length c ≤ limit) × (f.extras ≤ extra_limit)
-  known-room = let z = known_sized c f K in (z.behind, z.fits, known_most c f K, z.few)
+  known_room = let z = known_sized c f K in (z.behind, z.fits, known_most c f K, z.few)
 
   -- The slack is zeros.
-  pub slack-zeros : take (f.offset - (data_at + f.size)) (drop (data_at + f.size) c)
+  pub slack_zeros : take (f.offset - (data_at + f.size)) (drop (data_at + f.size) c)
       ≡ replicate (f.offset - (data_at + f.size)) 0
   unfolding slack_of
-  slack-zeros = rw (frame-count, frame-size) (slack_field c K.formed)
+  slack_zeros = rw (frame_count, frame_size) (slack_field c K.formed)
 
   module _ {e : ℕ} (E : e ≡ data_at + f.size) where
-    pub data-lent : lent c e ≡ data_of c
+    pub data_lent_lem : lent c e ≡ data_of c
     unfolding data_of
-    data-lent =
-        let n : e - data_at ≡ size_of c = omega (arith, frame-size) in
+    data_lent_lem =
+        let n : e - data_at ≡ size_of c = omega (arith, frame_size) in
         ap (λ (k : ℕ). take k (drop data_at c)) n
 
-    pub lent-small : length (lent c e) ≤ limit
-    lent-small = rw (data-lent, data-framed) (omega (arith, known-room))
+    pub lent_small : length (lent c e) ≤ limit
+    lent_small = rw (data_lent_lem, data_framed) (omega (arith, known_room))

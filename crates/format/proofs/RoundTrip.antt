@@ -21,7 +21,7 @@ use Rattle.format.specs.Parts.{Parts, extras, count_in, used, parts_of, encode, 
 use Rattle.format.specs.Parts.{front_of, tail_of}
 use Rattle.format.specs.Claims.{Place, Valid}
 use Rattle.octets.specs.Lists.{every}
-use Rattle.octets.proofs.ListLaws.{both, each_append, each-drop, each_take, field_then, field_back}
+use Rattle.octets.proofs.ListLaws.{both, each_append, each_drop, each_take, field_then, field_back}
 use Rattle.format.proofs.WellFormed.{Fields, Contents, formed_facts, formed_true, used_is, slack_is}
 use Rattle.format.proofs.WellFormed.{length-records, records_shift, length_leases, join-records, length-join}
 use Rattle.format.proofs.WellFormed.{records-join, data_length_lem}
@@ -244,22 +244,22 @@ module _ (p : Parts) (v : Valid p) where
   sizes : Each (λ r. length r ≡ record_size) p.leases
   sizes = places_sizes p.leases v.places
 
-  four-long : length (take fixed_places p.leases) ≡ fixed_places
-  four-long = length-take-le fixed_places p.leases v.four
+  four_long : length (take fixed_places p.leases) ≡ fixed_places
+  four_long = length-take-le fixed_places p.leases v.four
 
-  extras-long : length (drop fixed_places p.leases) ≡ extras p.leases
+  extras_long : length (drop fixed_places p.leases) ≡ extras p.leases
   unfolding extras
-  extras-long = length-drop fixed_places p.leases
+  extras_long = length-drop fixed_places p.leases
 
   pub four_bytes : length (join (take fixed_places p.leases)) ≡ (fixed_places * record_size)
-  four_bytes = length-join (take fixed_places p.leases) (each_take _ fixed_places p.leases sizes) ∙ rw four-long
+  four_bytes = length-join (take fixed_places p.leases) (each_take _ fixed_places p.leases sizes) ∙ rw four_long
 
-  pub extra-bytes : length (join (drop fixed_places p.leases)) ≡ record_size * extras p.leases
-  extra-bytes = length-join (drop fixed_places p.leases) (each-drop _ fixed_places p.leases sizes) ∙ rw extras-long
+  pub extra_bytes : length (join (drop fixed_places p.leases)) ≡ record_size * extras p.leases
+  extra_bytes = length-join (drop fixed_places p.leases) (each_drop _ fixed_places p.leases sizes) ∙ rw extras_long
 
-  room-used : used_length (count_in p) (extras p.leases) ≤ p.room
+  room_used : used_length (count_in p) (extras p.leases) ≤ p.room
   unfolding used
-  room-used = v.fits
+  room_used = v.fits
 
   pub length-encode : length (encode p) ≡ p.room
   unfolding used
@@ -269,10 +269,10 @@ module _ (p : Parts) (v : Valid p) where
         length_digits,
         length-replicate,
         four_bytes,
-        extra-bytes,
+        extra_bytes,
         v.node_size_holds,
         v.enabler_size,
-      ) (omega (arith, room-used, count_is p, used_is (count_in p) (extras p.leases))))
+      ) (omega (arith, room_used, count_is p, used_is (count_in p) (extras p.leases))))
 
   pub written : Written p (length p.bytes) (count_in p) (extras p.leases) (encode p)
   unfolding used
@@ -296,7 +296,7 @@ module _ (p : Parts) (v : Valid p) where
       (length_digits count_size e) refl in
       let q : extras_at o + record_size * e ≡ used_length o e = omega (arith, used_is o e) in
       let z8 = field_back c (extras_at o) (record_size * e) (used_length o e)
-      (join (drop fixed_places p.leases)) _ z7.1 extra-bytes q in
+      (join (drop fixed_places p.leases)) _ z7.1 extra_bytes q in
       record {
         magical = z0.0;
         node = z1.0;
@@ -314,29 +314,29 @@ module _ (p : Parts) (v : Valid p) where
       }
 
   -- what the fields of the encoding say
-  pub size-encode : size_of (encode p) ≡ length p.bytes
+  pub size_encode : size_of (encode p) ≡ length p.bytes
   unfolding size_of number_at
-  size-encode =
+  size_encode =
       let h : 256 ^ size_width ≡ 18446744073709551616 = refl in
       ap number written.size
       ∙ number_digits size_width (length p.bytes)
-      (omega (arith, room-used, count_is p, used_is (count_in p) (extras p.leases), v.at_most))
+      (omega (arith, room_used, count_is p, used_is (count_in p) (extras p.leases), v.at_most))
 
-  pub count-encode : count_at (encode p) ≡ count_in p
+  pub count_encode : count_at (encode p) ≡ count_in p
   unfolding count_at number_at
-  count-encode =
+  count_encode =
       let h : 256 ^ size_width ≡ 18446744073709551616 = refl in
       ap number written.offset
       ∙ number_digits size_width (count_in p)
-      (omega (arith, room-used, used_is (count_in p) (extras p.leases), v.at_most))
+      (omega (arith, room_used, used_is (count_in p) (extras p.leases), v.at_most))
 
   pub extras-encode : extras_of (encode p) ≡ extras p.leases
   unfolding extras_of number_at
   extras-encode =
       let h : 256 ^ count_size ≡ 4294967296 = refl in
-      rw count-encode (ap number written.count
+      rw count_encode (ap number written.count
       ∙ number_digits count_size (extras p.leases)
-      (omega (arith, room-used, used_is (count_in p) (extras p.leases), v.at_most)))
+      (omega (arith, room_used, used_is (count_in p) (extras p.leases), v.at_most)))
 
   pub node-encode : node_of (encode p) ≡ p.node
   unfolding node_of
@@ -346,59 +346,59 @@ module _ (p : Parts) (v : Valid p) where
   unfolding enabler_of
   enabler-encode = written.enabler
 
-  pub data-encode : data_of (encode p) ≡ p.bytes
+  pub data_encode : data_of (encode p) ≡ p.bytes
   unfolding data_of
-  data-encode = rw size-encode written.bytes
+  data_encode = rw size_encode written.bytes
 
-  four-encode : records fixed_places leases_at (encode p) ≡ take fixed_places p.leases
-  four-encode = records-back fixed_places leases_at (encode p) (take fixed_places p.leases) written.after_offset
-      written.four four-long (each_take _ fixed_places p.leases sizes)
+  four_encode : records fixed_places leases_at (encode p) ≡ take fixed_places p.leases
+  four_encode = records-back fixed_places leases_at (encode p) (take fixed_places p.leases) written.after_offset
+      written.four four_long (each_take _ fixed_places p.leases sizes)
 
-  more-encode : records (extras p.leases) (extras_at (count_in p)) (encode p) ≡ drop fixed_places p.leases
-  more-encode = records-back (extras p.leases) (extras_at (count_in p)) (encode p)
-      (drop fixed_places p.leases) _ written.more extras-long (each-drop _ fixed_places p.leases sizes)
+  more_encode : records (extras p.leases) (extras_at (count_in p)) (encode p) ≡ drop fixed_places p.leases
+  more_encode = records-back (extras p.leases) (extras_at (count_in p)) (encode p)
+      (drop fixed_places p.leases) _ written.more extras_long (each_drop _ fixed_places p.leases sizes)
 
-  pub leases-encode : leases_of (encode p) ≡ p.leases
+  pub leases_encode : leases_of (encode p) ≡ p.leases
   unfolding leases_of
-  leases-encode = rw (count-encode, extras-encode, four-encode, more-encode) (take-append-drop fixed_places p.leases)
+  leases_encode = rw (count_encode, extras-encode, four_encode, more_encode) (take-append-drop fixed_places p.leases)
 
-  slack-encode : slack_of (encode p) ≡ p.slack
+  slack_encode : slack_of (encode p) ≡ p.slack
   unfolding slack_of
-  slack-encode = rw (count-encode, size-encode) (omega (arith, count_is p))
+  slack_encode = rw (count_encode, size_encode) (omega (arith, count_is p))
 
   -- read back
-  pub parts-encode : parts_of (encode p) ≡ p
+  pub parts_encode : parts_of (encode p) ≡ p
   unfolding parts_of
-  parts-encode = rw (length-encode, node-encode, enabler-encode, data-encode, slack-encode, leases-encode)
+  parts_encode = rw (length-encode, node-encode, enabler-encode, data_encode, slack_encode, leases_encode)
 
   -- what the encoding is, is well formed
-  fields-encode : Fields (encode p)
-  fields-encode = record {
+  fields_encode : Fields (encode p)
+  fields_encode = record {
     magical = rw written.magical (same_refl magic);
-    behind = rw (size-encode, count-encode) (omega (arith, count_is p));
-    few = rw extras-encode few-extras;
-    fits = rw (count-encode, extras-encode, length-encode) room-used;
+    behind = rw (size_encode, count_encode) (omega (arith, count_is p));
+    few = rw extras-encode few_extras;
+    fits = rw (count_encode, extras-encode, length-encode) room_used;
   }
     where
-      few-extras : extras p.leases ≤ extra_limit
-      few-extras = omega (arith, sym extras-long ∙ length-drop fixed_places p.leases, v.few)
+      few_extras : extras p.leases ≤ extra_limit
+      few_extras = omega (arith, sym extras_long ∙ length-drop fixed_places p.leases, v.few)
 
-  contents-encode : Contents (encode p)
-  contents-encode = record {
-    records = rw leases-encode (places_ok p.leases v.places);
-    last = rw leases-encode v.last;
-    zeros = rw (count-encode, extras-encode, written.rest)
+  contents_encode : Contents (encode p)
+  contents_encode = record {
+    records = rw leases_encode (places_ok p.leases v.places);
+    last = rw leases_encode v.last;
+    zeros = rw (count_encode, extras-encode, written.rest)
         (all_zero-replicate (p.room - used_length (count_in p) (extras p.leases)));
-    slack = rw (slack-encode, size-encode, written.slack) (all_zero-replicate p.slack);
+    slack = rw (slack_encode, size_encode, written.slack) (all_zero-replicate p.slack);
   }
 
-  pub encode-formed : well_formed (encode p) ≡ true
-  encode-formed = formed_true (encode p) (record {
+  pub encode_formed : well_formed (encode p) ≡ true
+  encode_formed = formed_true (encode p) (record {
     least_length = rw length-encode v.at_least;
     most =
         rw length-encode v.at_most;
-    fields = fields-encode;
-    contents = contents-encode;
+    fields = fields_encode;
+    contents = contents_encode;
   })
 
 -- ---- a fresh container

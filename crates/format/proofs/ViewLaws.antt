@@ -13,10 +13,10 @@ use Rattle.format.specs.Layout.{leases_at, data_at, data_of, slack_of}
 use Rattle.octets.proofs.NumberLaws.{length_digits}
 use Rattle.format.specs.Judging.{Known}
 use Rattle.octets.specs.Facts.{Octets}
-use Rattle.format.proofs.RoundTrip.{parts_valid, parts_count, encode_parts, four_bytes, extra-bytes}
+use Rattle.format.proofs.RoundTrip.{parts_valid, parts_count, encode_parts, four_bytes, extra_bytes}
 use Rattle.format.proofs.WellFormed.{used_is, slack_is}
 use Rattle.format.proofs.JudgingLaws.{known_sized}
-use Rattle.format.proofs.KnownLaws.{frame-size, frame-count, data-framed, extras-framed}
+use Rattle.format.proofs.KnownLaws.{frame_size, frame_count, data_framed, extras_framed}
 use Rattle.octets.specs.Moves.{put}
 use Rattle.octets.proofs.MoveLaws.{put_left, put_right, put-length, put_zeros, zeros_split}
 
@@ -32,11 +32,11 @@ module _ (p : Parts) (v : Valid p) where
 
   pub length-tail : length (tail_of p) ≡ tail_size (extras p.leases)
   unfolding tail_of
-  length-tail = simp (length-append, length_digits, extra-bytes p v)
+  length-tail = simp (length-append, length_digits, extra_bytes p v)
 
-  pub used-view : used p ≡ count_in p + tail_size (extras p.leases)
+  pub used_view : used p ≡ count_in p + tail_size (extras p.leases)
   unfolding used
-  used-view = omega (arith, used_is (count_in p) (extras p.leases))
+  used_view = omega (arith, used_is (count_in p) (extras p.leases))
 
 -- Data with its slack, as they lie between head and count.
 abbrev pub loose : List ℕ → ℕ → List ℕ
@@ -52,34 +52,34 @@ laid_encoded p k c l e =
 
 -- A well-formed container in the view of its own parts.
 module _ (c : List ℕ) (f : Frame) (k : Known c f) where
-  used-known : used (parts_of c) ≡ f.offset + tail_size f.extras
+  used_known : used (parts_of c) ≡ f.offset + tail_size f.extras
   unfolding parts_of
-  used-known =
-      used-view (parts_of c) (parts_valid c k.formed) ∙ rw (parts_count c k.formed, extras-framed k, frame-count k)
+  used_known =
+      used_view (parts_of c) (parts_valid c k.formed) ∙ rw (parts_count c k.formed, extras_framed k, frame_count k)
 
-  tail-known : length (tail_of (parts_of c)) ≡ tail_size f.extras
+  tail_known : length (tail_of (parts_of c)) ≡ tail_size f.extras
   unfolding parts_of
-  tail-known = length-tail (parts_of c) (parts_valid c k.formed) ∙ rw (extras-framed k)
+  tail_known = length-tail (parts_of c) (parts_valid c k.formed) ∙ rw (extras_framed k)
 
-  encoded-known : encode (parts_of c)
+  encoded_known : encode (parts_of c)
       ≡ head_of (parts_of c)
       ++ (loose (data_of c) (slack_of c)
       ++ (tail_of (parts_of c) ++ replicate (length c - (f.offset + tail_size f.extras)) 0))
   unfolding encode parts_of
-  encoded-known =
-      rw used-known
+  encoded_known =
+      rw used_known
       (ap (λ (x : List ℕ). head_of (parts_of c) ++ x) (sym (append_assoc (data_of c) (replicate (slack_of c) 0) _)))
 
-  pub formed-laid : Octets c
+  pub formed_laid : Octets c
       → Laid (length c) f.offset (tail_size f.extras) c (head_of (parts_of c)) (loose (data_of c) (slack_of c))
       (tail_of (parts_of c))
-  formed-laid o = record {
-    is = sym (encode_parts c k.formed o) ∙ encoded-known;
+  formed_laid o = record {
+    is = sym (encode_parts c k.formed o) ∙ encoded_known;
     head = length-head (parts_of c) (parts_valid c k.formed);
     upto =
-        rw (length-append (data_of c) (replicate (slack_of c) 0), data-framed k, length-replicate {A = ℕ} (slack_of c) 0)
-        (omega (arith, slack_is c, frame-size k, frame-count k, (known_sized c f k).behind));
-    tail = tail-known;
+        rw (length-append (data_of c) (replicate (slack_of c) 0), data_framed k, length-replicate {A = ℕ} (slack_of c) 0)
+        (omega (arith, slack_is c, frame_size k, frame_count k, (known_sized c f k).behind));
+    tail = tail_known;
     fits = omega (arith, (known_sized c f k).fits);
   }
 
@@ -88,8 +88,8 @@ module _ {n o k : ℕ} {c h d t : List ℕ} (l : Laid n o k c h d t) where
   abbrev zeros : List ℕ
   zeros = replicate (n - (o + k)) 0
 
-  pub laid-length : length c ≡ n
-  laid-length =
+  pub laid_length : length c ≡ n
+  laid_length =
       ap length l.is ∙ simp (length-append, length-replicate) (omega (arith, l.head, l.upto, l.tail, l.fits))
 
   -- bytes put into the head
@@ -123,9 +123,9 @@ module _ {n o k : ℕ} {c h d t : List ℕ} (l : Laid n o k c h d t) where
       }
 
   -- bytes put behind the tail make it longer
-  pub put-behind : (at : ℕ) (r : List ℕ) → at ≡ o + k → o + (k + length r) ≤ n
+  pub put_behind : (at : ℕ) (r : List ℕ) → at ≡ o + k → o + (k + length r) ≤ n
       → Laid n o (k + length r) (put at r c) h d (t ++ r)
-  put-behind at r a e =
+  put_behind at r a e =
       let m : ℕ = n - (o + (k + length r)) in
       let z : n - (o + k) ≡ length r + m = omega arith in
       record {
@@ -145,8 +145,8 @@ module _ {n o k : ℕ} {c h d t : List ℕ} (l : Laid n o k c h d t) where
       }
 
   -- zeros at the end of the tail are no part of it
-  pub tail-less : (j : ℕ) (u : List ℕ) → t ≡ u ++ replicate j 0 → j ≤ k → Laid n o (k - j) c h d u
-  tail-less j u e g =
+  pub tail_less : (j : ℕ) (u : List ℕ) → t ≡ u ++ replicate j 0 → j ≤ k → Laid n o (k - j) c h d u
+  tail_less j u e g =
       let z : j + (n - (o + k)) ≡ n - (o + (k - j)) = omega (arith, l.fits) in
       let lu : length u + j ≡ k =
       sym (length-append u (replicate j 0) ∙ rw (length-replicate {A = ℕ} j 0)) ∙ sym (ap length e) ∙ l.tail in

@@ -9,7 +9,7 @@ use borrow.Author.Tests.{not-false}
 use Rattle.format.specs.Layout.{data_of}
 use Rattle.format.specs.Parts.{Parts, parts_of, encode, fresh}
 use Rattle.format.specs.Claims.{Valid}
-use Rattle.format.proofs.RoundTrip.{encode-formed, leases-encode, data-encode, encode_parts, parts_valid}
+use Rattle.format.proofs.RoundTrip.{encode_formed, leases_encode, data_encode, encode_parts, parts_valid}
 use Rattle.rules.specs.Requests.{request_of}
 use Rattle.rules.specs.Outcomes.{after_of, create_outcome, created_container}
 use Rattle.rules.proofs.Demand1.{created, created_valid}
@@ -18,8 +18,8 @@ use Rattle.histories.specs.Runs.{names, is_lease, is_data, only, beside, no_room
 use Rattle.rules.specs.Changes.{Change, size_after, byte_over, byte_after, changes_of}
 use Rattle.histories.specs.Accepted.{took, accepted}
 use Rattle.histories.specs.Claims.{Alike, ByRules, Told, Demand3, InUse, Histories}
-use Rattle.histories.proofs.Sides.{agree, looks-agree}
-use Rattle.histories.proofs.Follows.{valid-final, follows-answers, follows-final}
+use Rattle.histories.proofs.Sides.{agree, looks_agree}
+use Rattle.histories.proofs.Follows.{valid_final, follows_answers, follows_final}
 use Rattle.rules.proofs.ChangeLaws.{perform_all, length-perform_all, at_perform_all, perform_all-append, after-bytes}
 use Rattle.histories.proofs.Steps.{heard_by, left_by, early_of, heard_number, data_side, lease_side, room_stays}
 use Rattle.histories.proofs.Steps.{data_calls, lease_calls, lease-changes, rule_names, names_sided, follows_names}
@@ -28,14 +28,14 @@ use Rattle.histories.proofs.Steps.{follows}
 -- ---- what the rules give
 pub by_rules : (h : List Call) (p : Parts) → Valid p → ByRules h (encode p) p
 by_rules h p v =
-    let f : Valid (final rule_leaves h p) = valid-final Valid encode rule_hears rule_leaves hears leaves follows h p v in
+    let f : Valid (final rule_leaves h p) = valid_final Valid encode rule_hears rule_leaves hears leaves follows h p v in
     let e : final leaves h (encode p) ≡ encode (final rule_leaves h p) =
-    follows-final Valid encode rule_hears rule_leaves hears leaves follows h p v in
+    follows_final Valid encode rule_hears rule_leaves hears leaves follows h p v in
     record {
-      heard = follows-answers Valid encode rule_hears rule_leaves hears leaves follows h p v;
+      heard = follows_answers Valid encode rule_hears rule_leaves hears leaves follows h p v;
       buffer = e;
-      leases = rw e (leases-encode (final rule_leaves h p) f);
-      formed = rw e (encode-formed (final rule_leaves h p) f);
+      leases = rw e (leases_encode (final rule_leaves h p) f);
+      formed = rw e (encode_formed (final rule_leaves h p) f);
     }
 
 -- ---- woven histories: the sides agree, so the whole parts do
@@ -100,18 +100,18 @@ woven_alike h k p v w nh nk =
     let l = agree is_lease no_room rule_hears rule_leaves lease_side (λ x p. heard_by (early_of x p) x p)
     (λ x p. left_by (early_of x p) x p) lease_calls h k p w.lease_calls mh mk in
     let e : final rule_leaves h p ≡ final rule_leaves k p = parts_agree (final rule_leaves h p) (final rule_leaves k p)
-    d.view-agrees l.view-agrees (room_final h p ∙ sym (room_final k p)) in
+    d.view_agrees l.view_agrees (room_final h p ∙ sym (room_final k p)) in
     record {
       data_heard = rw (bh.heard, bk.heard) d.answers_agree;
       lease_heard = rw (bh.heard, bk.heard) l.answers_agree;
       bytes_equal = bh.buffer ∙ ap encode e ∙ sym bk.buffer;
       positions_equal =
-          ap (beside is_data h) (follows-answers Valid encode rule_names rule_leaves names leaves follows_names h p v)
-          ∙ looks-agree is_data no_room rule_hears rule_leaves data_side (λ x p. heard_by (early_of x p) x p)
+          ap (beside is_data h) (follows_answers Valid encode rule_names rule_leaves names leaves follows_names h p v)
+          ∙ looks_agree is_data no_room rule_hears rule_leaves data_side (λ x p. heard_by (early_of x p) x p)
           (λ x p. left_by (early_of x p) x p) rule_names rule_names (λ x p m r. names_sided x p) data_calls h k p
           w.data_calls mh mk
           ∙ sym (ap (beside is_data k)
-          (follows-answers Valid encode rule_names rule_leaves names leaves follows_names k p v));
+          (follows_answers Valid encode rule_names rule_leaves names leaves follows_names k p v));
       changes_equal =
           accepted_data h (answers hears leaves h (encode p)) (length (data_of (encode p)))
           ∙ rw (w.data_calls, bh.heard, bk.heard, d.answers_agree) refl
@@ -149,26 +149,26 @@ module _ (h : List Call) (p : Parts) (v : Valid p) (d : List ℕ) (e : p.bytes �
   abbrev did : List Change
   did = accepted h (answers hears leaves h (encode p)) (length d)
 
-  data-final : data_of (final leaves h (encode p)) ≡ perform_all did d
-  data-final =
+  data_final : data_of (final leaves h (encode p)) ≡ perform_all did d
+  data_final =
       let b : ByRules h (encode p) p = by_rules h p v in
       let f : Valid (final rule_leaves h p) =
-      valid-final Valid encode rule_hears rule_leaves hears leaves follows h p v in
-      rw (b.buffer, b.heard) (data-encode (final rule_leaves h p) f ∙ bytes-accepted h p ∙ rw e)
+      valid_final Valid encode rule_hears rule_leaves hears leaves follows h p v in
+      rw (b.buffer, b.heard) (data_encode (final rule_leaves h p) f ∙ bytes-accepted h p ∙ rw e)
 
-  pub size-final : length (data_of (final leaves h (encode p))) ≡ size_after did (length d)
-  size-final = ap length data-final ∙ length-perform_all did d
+  pub size_final : length (data_of (final leaves h (encode p))) ≡ size_after did (length d)
+  size_final = ap length data_final ∙ length-perform_all did d
 
-  pub each-final : (i : ℕ) → get_or (data_of (final leaves h (encode p))) i 0 ≡ byte_over did i (get_or d i 0)
+  pub each_final : (i : ℕ) → get_or (data_of (final leaves h (encode p))) i 0 ≡ byte_over did i (get_or d i 0)
   unfolding byte_over
-  each-final i = ap (λ (x : List ℕ). get_or x i 0) data-final ∙ at_perform_all did d i
+  each_final i = ap (λ (x : List ℕ). get_or x i 0) data_final ∙ at_perform_all did d i
 
 data_told : (h : List Call) (p : Parts) → Valid p → p.bytes ≡ []
     → Told (accepted h (answers hears leaves h (encode p)) 0) (data_of (final leaves h (encode p)))
 unfolding byte_after
 data_told h p v e = record {
-  size = size-final h p v [] e;
-  each = each-final h p v [] e;
+  size = size_final h p v [] e;
+  each = each_final h p v [] e;
 }
 
 demand_3_parts : (p : Parts) → Valid p → p.bytes ≡ [] → Demand3 (encode p) p
@@ -195,6 +195,6 @@ unfolding parts_of
 in_use c = record {
   woven = λ w o h k. rw (encode_parts c w o) at (woven_alike h k (parts_of c) (parts_valid c w));
   rules = λ w o h. rw (encode_parts c w o) at (by_rules h (parts_of c) (parts_valid c w));
-  size = λ w o h. rw (encode_parts c w o) at (size-final h (parts_of c) (parts_valid c w) (data_of c) refl);
-  each = λ w o h. rw (encode_parts c w o) at (each-final h (parts_of c) (parts_valid c w) (data_of c) refl);
+  size = λ w o h. rw (encode_parts c w o) at (size_final h (parts_of c) (parts_valid c w) (data_of c) refl);
+  each = λ w o h. rw (encode_parts c w o) at (each_final h (parts_of c) (parts_valid c w) (data_of c) refl);
 }

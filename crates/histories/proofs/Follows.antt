@@ -10,18 +10,18 @@ module _ {R A S B : Type 0} (valid : S → Type 0) (enc : S → B) (ans : R → 
     pub after : (r : R) (s : S) → valid s → bnext r (enc s) ≡ enc (next r s)
     pub lasts : (r : R) (s : S) → valid s → valid (next r s)
 
-  pub valid-final : Follows → (h : List R) (s : S) → valid s → valid (final next h s)
+  pub valid_final : Follows → (h : List R) (s : S) → valid s → valid (final next h s)
   unfolding final
-  valid-final f [] s v = v
-  valid-final f (r ∷ rs) s v = valid-final f rs (next r s) (f.lasts r s v)
+  valid_final f [] s v = v
+  valid_final f (r ∷ rs) s v = valid_final f rs (next r s) (f.lasts r s v)
 
-  pub follows-answers : Follows → (h : List R) (s : S) → valid s → answers bans bnext h (enc s) ≡ answers ans next h s
+  pub follows_answers : Follows → (h : List R) (s : S) → valid s → answers bans bnext h (enc s) ≡ answers ans next h s
   unfolding answers
-  follows-answers f [] s v = refl
-  follows-answers f (r ∷ rs) s v =
-      ap₂ ◌∷◌ (f.answer r s v) (rw (f.after r s v) (follows-answers f rs (next r s) (f.lasts r s v)))
+  follows_answers f [] s v = refl
+  follows_answers f (r ∷ rs) s v =
+      ap₂ ◌∷◌ (f.answer r s v) (rw (f.after r s v) (follows_answers f rs (next r s) (f.lasts r s v)))
 
-  pub follows-final : Follows → (h : List R) (s : S) → valid s → final bnext h (enc s) ≡ enc (final next h s)
+  pub follows_final : Follows → (h : List R) (s : S) → valid s → final bnext h (enc s) ≡ enc (final next h s)
   unfolding final
-  follows-final f [] s v = refl
-  follows-final f (r ∷ rs) s v = ap (final bnext rs) (f.after r s v) ∙ follows-final f rs (next r s) (f.lasts r s v)
+  follows_final f [] s v = refl
+  follows_final f (r ∷ rs) s v = ap (final bnext rs) (f.after r s v) ∙ follows_final f rs (next r s) (f.lasts r s v)

@@ -28,7 +28,7 @@ use Rattle.rules.specs.Changes.{write_changes, changes_of}
 use Rattle.histories.specs.Accepted.{took, accepted}
 use Rattle.histories.specs.Incident.{Cuts, later_changes, Untouched, middle, end, Forgets, Appends, ForgetsAppend}
 use Rattle.histories.specs.Incident.{Incident, IncidentInUse}
-use Rattle.histories.proofs.Demand3.{size-final, each-final}
+use Rattle.histories.proofs.Demand3.{size_final, each_final}
 use Rattle.histories.proofs.Sides.{final-append}
 use Rattle.octets.proofs.ListLaws.{last_said-append, newer_assoc}
 
@@ -123,36 +123,36 @@ module _ (p : Parts) (v : Valid p) (before : List Call) (x : Call) (after : List
   since : List Change
   since = later_changes after (middle c before x)
 
-  incident-byte : (i : ℕ) → m ≤ i → get_or (data_of (end c before x after)) i 0 ≡ byte_after since i
+  incident_byte : (i : ℕ) → m ≤ i → get_or (data_of (end c before x after)) i 0 ≡ byte_after since i
   unfolding since
-  incident-byte i h =
+  incident_byte i h =
       let n : ℕ = length d in
       let s : length (data_of (middle c before x)) ≡ size_after (changes (before ++ (x ∷ [])) c n) n =
-      size-final (before ++ (x ∷ [])) p v d refl in
+      size_final (before ++ (x ∷ [])) p v d refl in
       let a = accepted-cut before x c n m cuts in
-      each-final ((before ++ (x ∷ [])) ++ after) p v d refl i
+      each_final ((before ++ (x ∷ [])) ++ after) p v d refl i
       ∙ ap (λ (os : List Change). byte_over os i (get_or d i 0)) (accepted-append (before ++ (x ∷ [])) after c n)
       ∙ rw (← s, a.1, append_assoc a.0 (cut_at m ∷ []) since) (cut_forgets a.0 since m i (get_or d i 0) h)
 
-  incident-read : (o : ℤ) (p n j : ℕ) → resolve o (length (data_of (end c before x after))) ≡ some p → j < n →
+  incident_read : (o : ℤ) (p n j : ℕ) → resolve o (length (data_of (end c before x after))) ≡ some p → j < n →
       m ≤ p + j → get_or (piece (data_of (end c before x after)) o n) j 0 ≡ byte_after since (p + j)
   unfolding piece position or_else
-  incident-read o p n j r h g =
+  incident_read o p n j r h g =
       let e : List ℕ = data_of (end c before x after) in
-      rw r (get_or-take n (drop p e) j 0 h ∙ get_or-drop p e j 0 ∙ incident-byte (p + j) g)
+      rw r (get_or-take n (drop p e) j 0 h ∙ get_or-drop p e j 0 ∙ incident_byte (p + j) g)
 
-  incident-short : length (data_of (middle c before x)) ≤ m
-  incident-short =
+  incident_short : length (data_of (middle c before x)) ≤ m
+  incident_short =
       let a = accepted-cut before x c (length d) m cuts in
-      rw (size-final (before ++ (x ∷ [])) p v d refl, a.1) (size_cut a.0 m (length d))
+      rw (size_final (before ++ (x ∷ [])) p v d refl, a.1) (size_cut a.0 m (length d))
 
   forgets : Forgets c before x after m
   unfolding since
   forgets = record {
-    bytes = incident-byte;
-    reads = incident-read;
-    zeros = λ i h u. incident-byte i h ∙ untouched_zero since i u;
-    short = incident-short;
+    bytes = incident_byte;
+    reads = incident_read;
+    zeros = λ i h u. incident_byte i h ∙ untouched_zero since i u;
+    short = incident_short;
   }
 
 -- ---- an append behind all that
@@ -187,8 +187,8 @@ module _ (p : Parts) (v : Valid p) (before : List Call) (x : Call) (after : List
       ∙ ap (λ (i : ℕ). drop i (d ++ bs)) (sym n)
       ∙ drop-append_seam d bs
 
-  forgets-append : ForgetsAppend (encode p) before x after y m bs
-  forgets-append = record {
+  forgets_append : ForgetsAppend (encode p) before x after y m bs
+  forgets_append = record {
     behind = behind;
     at_cut = at_cut;
     forgets = forgets p v before x (after ++ (y ∷ [])) m cuts;
@@ -200,12 +200,12 @@ incident b node enabler = record {
   forgets = λ e. rw (created b node enabler e)
       (forgets (fresh (length b) node enabler) (created_valid b node enabler e));
   appends = λ e. rw (created b node enabler e)
-      (forgets-append (fresh (length b) node enabler) (created_valid b node enabler e));
+      (forgets_append (fresh (length b) node enabler) (created_valid b node enabler e));
 }
 
 -- Nor on a container in use.
 pub incident_in_use : (c : List ℕ) → IncidentInUse c
 incident_in_use c = record {
   forgets = λ w o. rw (encode_parts c w o) at (forgets (parts_of c) (parts_valid c w));
-  appends = λ w o. rw (encode_parts c w o) at (forgets-append (parts_of c) (parts_valid c w));
+  appends = λ w o. rw (encode_parts c w o) at (forgets_append (parts_of c) (parts_valid c w));
 }

@@ -10,7 +10,7 @@ use borrow.Author.Tests.{not-true, not-false}
 use Rattle.octets.specs.Moves.{put}
 use Rattle.format.specs.Parts.{Parts, count_in, encode}
 use Rattle.format.specs.Claims.{Valid}
-use Rattle.format.proofs.RoundTrip.{parts-encode, data-encode}
+use Rattle.format.proofs.RoundTrip.{parts_encode, data_encode}
 use Rattle.rules.specs.Requests.{request_of, kind_of, test_write_of}
 use Rattle.rules.specs.Changes.{changes_of}
 use Rattle.rules.specs.Offsets.{positions_of}
@@ -98,15 +98,15 @@ data_alone_by x p l (renews k o e) = never (lease_kind x 3 k) l
 data_alone_by x p l (cancels k o e) = never (lease_kind x 4 k) l
 data_alone_by x p l (reads k o e) = record { number = rw e refl; heard = rw e refl; after_side = rw e refl }
 
-lease-alone_by : (x : Call) (p : Parts) → is_lease x ≡ true → Kinds x.request → Alone lease_side x p
+lease_alone_by : (x : Call) (p : Parts) → is_lease x ≡ true → Kinds x.request → Alone lease_side x p
 unfolding heard_by left_by early_of early early_rows first_row lease_side rows admit_rows find_rows reply_to reply_bytes maybe
     counted answer_to after_of after with_leases
-lease-alone_by x p l (broken e) = record { number = rw e refl; heard = rw e refl; after_side = rw e refl }
-lease-alone_by x p l (tests k h o e) = never l (lease_kind x 1 k)
-lease-alone_by x p l (adds k o e) = record { number = rw e refl; heard = rw e refl; after_side = rw e refl }
-lease-alone_by x p l (renews k o e) = record { number = rw e refl; heard = rw e refl; after_side = rw e refl }
-lease-alone_by x p l (cancels k o e) = record { number = rw e refl; heard = rw e refl; after_side = rw e refl }
-lease-alone_by x p l (reads k o e) = never l (lease_kind x 5 k)
+lease_alone_by x p l (broken e) = record { number = rw e refl; heard = rw e refl; after_side = rw e refl }
+lease_alone_by x p l (tests k h o e) = never l (lease_kind x 1 k)
+lease_alone_by x p l (adds k o e) = record { number = rw e refl; heard = rw e refl; after_side = rw e refl }
+lease_alone_by x p l (renews k o e) = record { number = rw e refl; heard = rw e refl; after_side = rw e refl }
+lease_alone_by x p l (cancels k o e) = record { number = rw e refl; heard = rw e refl; after_side = rw e refl }
+lease_alone_by x p l (reads k o e) = never l (lease_kind x 5 k)
 
 pub alone_left : (side : Parts → Parts) (x : Call) (p : Parts) → Alone side x p → side (left_by (early_of x p) x p)
     ≡ left_by (early_of x (side p)) x (side p)
@@ -117,17 +117,17 @@ alone_left side x p a =
     a.number)
 
 -- a lease call has no writes and no cut
-changes-none_by : (x : Call) (n : ℕ) → is_lease x ≡ true → Kinds x.request → changes_of (request_of x.request) n ≡ []
+changes_none_by : (x : Call) (n : ℕ) → is_lease x ≡ true → Kinds x.request → changes_of (request_of x.request) n ≡ []
 unfolding changes_of
-changes-none_by x n l (broken e) = rw e refl
-changes-none_by x n l (tests k h o e) = never l (lease_kind x 1 k)
-changes-none_by x n l (adds k o e) = rw e refl
-changes-none_by x n l (renews k o e) = rw e refl
-changes-none_by x n l (cancels k o e) = rw e refl
-changes-none_by x n l (reads k o e) = rw e refl
+changes_none_by x n l (broken e) = rw e refl
+changes_none_by x n l (tests k h o e) = never l (lease_kind x 1 k)
+changes_none_by x n l (adds k o e) = rw e refl
+changes_none_by x n l (renews k o e) = rw e refl
+changes_none_by x n l (cancels k o e) = rw e refl
+changes_none_by x n l (reads k o e) = rw e refl
 
 pub lease-changes : (x : Call) (n : ℕ) → is_lease x ≡ true → changes_of (request_of x.request) n ≡ []
-lease-changes x n l = changes-none_by x n l (kinds x.request)
+lease-changes x n l = changes_none_by x n l (kinds x.request)
 
 -- a call of the other side leaves a side as it was
 data_stays_by : (x : Call) (p : Parts) → is_lease x ≡ true → Kinds x.request
@@ -188,9 +188,9 @@ data_calls = record {
 pub lease_calls : Sided is_lease no_room rule_hears rule_leaves lease_side (λ x p. heard_by (early_of x p) x p)
     (λ x p. left_by (early_of x p) x p)
 lease_calls = record {
-  answer = λ x p m r. hears-roomy x p r ∙ (lease-alone_by x p m (kinds x.request)).heard;
+  answer = λ x p m r. hears-roomy x p r ∙ (lease_alone_by x p m (kinds x.request)).heard;
   moves = λ x p m r. ap lease_side (leaves-roomy x p r)
-      ∙ alone_left lease_side x p (lease-alone_by x p m (kinds x.request));
+      ∙ alone_left lease_side x p (lease_alone_by x p m (kinds x.request));
   stays = λ x p m r. ap lease_side (leaves-roomy x p r)
       ∙ stays_left lease_side (early_of x p) x p (lease_stays_by x p m (kinds x.request));
 }
@@ -198,7 +198,7 @@ lease_calls = record {
 -- ---- bytes follow parts
 hears-encode : (x : Call) (p : Parts) → Valid p → hears x (encode p) ≡ rule_hears x p
 unfolding hears rule_hears rule_outcome answered reply_after
-hears-encode x p v = rw (outcome-encode p x.request (length x.space) v, parts-encode p v)
+hears-encode x p v = rw (outcome-encode p x.request (length x.space) v, parts_encode p v)
 
 leaves-encode : (x : Call) (p : Parts) → Valid p → leaves x (encode p) ≡ encode (rule_leaves x p)
 unfolding leaves rule_leaves rule_outcome left_parts
@@ -210,7 +210,7 @@ valid_left x p v = left_valid p x.request (length x.space) v
 
 names-encode : (x : Call) (p : Parts) → Valid p → names x (encode p) ≡ rule_names x p
 unfolding names rule_names
-names-encode x p v = rw (data-encode p v)
+names-encode x p v = rw (data_encode p v)
 
 pub follows_names : Follows Valid encode rule_names rule_leaves names leaves
 follows_names = record { answer = names-encode; after = leaves-encode; lasts = valid_left }

@@ -20,21 +20,21 @@ use Rattle.format.specs.Layout.{data_of, slack_of, used_length, extras_at, recor
 use Rattle.format.specs.Container.{held, record_ok}
 use Rattle.format.specs.Claims.{Place, Valid}
 use Rattle.format.specs.Parts.{extras, Parts, front_of, head_of, tail_of, parts_of, count_in, used, no_lease}
-use Rattle.octets.proofs.ListLaws.{each_take, each-drop, each_set, field_then}
+use Rattle.octets.proofs.ListLaws.{each_take, each_drop, each_set, field_then}
 use Rattle.format.proofs.RoundTrip.{count_is, parts_count, parts_valid, places_sizes, no_lease_lem, records-back}
 use Rattle.format.proofs.RoundTrip.{encode_parts, empty_is}
 use Rattle.rules.specs.Leasing.{later, with_last, trim, drop_tail, extended}
 use Rattle.rules.specs.Outcomes.{with_leases}
 use Rattle.octets.proofs.MoveLaws.{put-over, put_right, put-within, zeros_split}
 use Rattle.format.specs.View.{tail_size, Laid, place_at}
-use Rattle.format.proofs.ViewLaws.{length_front, loose, laid_encoded, formed-laid, put-head, put-behind, put-tail}
-use Rattle.format.proofs.ViewLaws.{tail-less}
+use Rattle.format.proofs.ViewLaws.{length_front, loose, laid_encoded, formed_laid, put-head, put_behind, put-tail}
+use Rattle.format.proofs.ViewLaws.{tail_less}
 use Rattle.format.specs.Judging.{Known}
 use Rattle.format.proofs.WellFormed.{length_leases, used_is}
 use Rattle.leases.specs.Changes.{leased_as}
-use Rattle.leases.proofs.PlaceLaws.{known_places, by_place, fixed_at, extra_at, lease-at, place_inside}
+use Rattle.leases.proofs.PlaceLaws.{known_places, by_place, fixed_at, extra_at, lease_at, place_inside}
 use Rattle.leases.proofs.PlaceLaws.{expiry_at_lem}
-use Rattle.format.proofs.KnownLaws.{frame-count, extras-framed}
+use Rattle.format.proofs.KnownLaws.{frame_count, extras_framed}
 use Rattle.rules.proofs.LeaseLaws.{length-trim, length-later}
 use Rattle.format.specs.declared.layout.Frame.{Frame}
 
@@ -127,7 +127,7 @@ module _ (p : Parts) (v : Valid p) (i : ℕ) (r : List ℕ) (l : length r ≡ re
         rw (extras-set ls i r, s)
         (put_right (tail_size j) (record_size * j) r n (join x)
         (omega (arith, length_digits count_size (extras ls)))
-        ∙ ap (λ (y : List ℕ). n ++ y) (put-joined x j r (each-drop _ fixed_places ls sizes) lx l))
+        ∙ ap (λ (y : List ℕ). n ++ y) (put-joined x j r (each_drop _ fixed_places ls sizes) lx l))
 
 -- another count in front of the extras
 put_count : (m n : ℕ) (x : List ℕ) → put 0 (digits count_size n) (digits count_size m ++ x) ≡ digits count_size n ++ x
@@ -164,33 +164,33 @@ module _ (p : Parts) (h : fixed_places ≤ length p.leases) where
         (put_count count (count + 1) (join more ++ r))
 
   -- the empty extras at the end left out, and the count without them
-  four-long : length four ≡ fixed_places
-  four-long = length-take-le fixed_places p.leases h
+  four_long : length four ≡ fixed_places
+  four_long = length-take-le fixed_places p.leases h
 
-  head-trimmed : head_of p ≡ head_of (with_leases p (drop_tail p.leases))
+  head_trimmed : head_of p ≡ head_of (with_leases p (drop_tail p.leases))
   unfolding head_of front_of count_in with_leases drop_tail
-  head-trimmed = rw (take_at four (trim more) fixed_places four-long)
+  head_trimmed = rw (take_at four (trim more) fixed_places four_long)
 
-  extras-trimmed : extras (drop_tail p.leases) ≡ length (trim more)
+  extras_trimmed : extras (drop_tail p.leases) ≡ length (trim more)
   unfolding extras drop_tail
-  extras-trimmed = rw (length-append, four-long) (omega arith)
+  extras_trimmed = rw (length-append, four_long) (omega arith)
 
-  tail-split : Each Place p.leases →
+  tail_split : Each Place p.leases →
       tail_of p ≡ digits count_size count ++ join (trim more) ++ replicate (record_size * (count - length (trim more))) 0
   unfolding tail_of extras
-  tail-split v =
+  tail_split v =
       rw (← length-drop fixed_places p.leases, append_assoc)
       (ap (λ (l : List ℕ). digits count_size (length more) ++ l)
-      (trim_zeros more (each-drop Place fixed_places p.leases v)))
+      (trim_zeros more (each_drop Place fixed_places p.leases v)))
 
-  more-trimmed : drop fixed_places (drop_tail p.leases) ≡ trim more
+  more_trimmed : drop fixed_places (drop_tail p.leases) ≡ trim more
   unfolding drop_tail
-  more-trimmed = drop_at four (trim more) fixed_places four-long
+  more_trimmed = drop_at four (trim more) fixed_places four_long
 
-  tail-trimmed : put 0 (digits count_size (length (trim more))) (digits count_size count ++ join (trim more))
+  tail_trimmed : put 0 (digits count_size (length (trim more))) (digits count_size count ++ join (trim more))
       ≡ tail_of (with_leases p (drop_tail p.leases))
   unfolding tail_of with_leases
-  tail-trimmed = put_count count (length (trim more)) (join (trim more)) ∙ rw (extras-trimmed, more-trimmed)
+  tail_trimmed = put_count count (length (trim more)) (join (trim more)) ∙ rw (extras_trimmed, more_trimmed)
 
 -- ---- the later expiry
 later-put : (x : ℕ) (r : List ℕ) → expiry_of r ≤ x → put expiry_at (digits 4 x) r ≡ later x r
@@ -227,7 +227,7 @@ extras-back {n} {a} {k} {c} {h} {d} m x l e =
 count_leased : (c : List ℕ) (f : Frame) → Known c f → (ls : List (List ℕ)) →
     count_in (with_leases (parts_of c) ls) ≡ f.offset
 unfolding count_in with_leases
-count_leased c f k ls = sym (count_is (parts_of c)) ∙ parts_count c k.formed ∙ sym (frame-count k)
+count_leased c f k ls = sym (count_is (parts_of c)) ∙ parts_count c k.formed ∙ sym (frame_count k)
 
 pub used_leases : (c : List ℕ) (f : Frame) → Known c f → (ls : List (List ℕ)) →
     used (with_leases (parts_of c) ls) ≡ used_length f.offset (extras ls)
@@ -266,12 +266,12 @@ module _ (c : List ℕ) (f : Frame) (k : Known c f) (o : Octets c) where
   long = omega (arith, length_leases c)
 
   -- a record put at a place
-  laid-set : (i : ℕ) (r : List ℕ) → i < fixed_places + f.extras → length r ≡ record_size →
+  laid_set : (i : ℕ) (r : List ℕ) → i < fixed_places + f.extras → length r ≡ record_size →
       Leased (set (leases_of c) i r) size (put (place_at f.offset i) r c)
   unfolding parts_of
-  laid-set i r h l =
+  laid_set i r h l =
       let g : i < length (leases_of c) = omega (arith, known_places c f k) in
-      let w = formed-laid c f k o in
+      let w = formed_laid c f k o in
       let j : ℕ = record_size * (i - fixed_places) in
       by_place i
       (λ (b : i < fixed_places).
@@ -282,22 +282,22 @@ module _ (c : List ℕ) (f : Frame) (k : Known c f) (o : Octets c) where
       (put-tail w (extras_at f.offset + j) (count_size + j) r (omega arith)
       (omega arith)))
 
-  pub put-place : (i : ℕ) (r : List ℕ) → i < fixed_places + f.extras → length r ≡ record_size →
+  pub put_place : (i : ℕ) (r : List ℕ) → i < fixed_places + f.extras → length r ≡ record_size →
       put (place_at f.offset i) r c ≡ leased_as c (set (leases_of c) i r)
-  put-place i r h l =
-      leased (set (leases_of c) i r) size _ (laid-set i r h l) (rw (extras-set (leases_of c) i r, extras-framed k))
+  put_place i r h l =
+      leased (set (leases_of c) i r) size _ (laid_set i r h l) (rw (extras-set (leases_of c) i r, extras_framed k))
 
   -- a new extra
-  pub put-extra : (r : List ℕ) → used_length f.offset (f.extras + 1) ≤ length c → length r ≡ record_size →
+  pub put_extra : (r : List ℕ) → used_length f.offset (f.extras + 1) ≤ length c → length r ≡ record_size →
       put f.offset (digits count_size (f.extras + 1)) (put (used_length f.offset f.extras) r c)
       ≡ leased_as c (leases_of c ++ (r ∷ []))
   unfolding parts_of
-  put-extra r h l =
+  put_extra r h l =
       let ls : List (List ℕ) = leases_of c ++ (r ∷ []) in
       let n : List ℕ = digits count_size (f.extras + 1) in
-      let e = extras-framed k in
+      let e = extras_framed k in
       let u = used_is f.offset in
-      let b = put-behind (formed-laid c f k o) (used_length f.offset f.extras) r (omega (arith, u f.extras))
+      let b = put_behind (formed_laid c f k o) (used_length f.offset f.extras) r (omega (arith, u f.extras))
       (omega (arith, h, u (f.extras + 1))) in
       let w = put-tail b f.offset 0 n (omega arith)
       (omega (arith, length_digits count_size (f.extras + 1))) in
@@ -320,41 +320,41 @@ module _ (c : List ℕ) (f : Frame) (k : Known c f) (o : Octets c) where
 
     as_many : extras ls ≡ f.extras
     unfolding extras
-    as_many = rw many (extras-framed k)
+    as_many = rw many (extras_framed k)
 
-    extra-long : length extra ≡ f.extras
+    extra_long : length extra ≡ f.extras
     unfolding extras
-    extra-long = length-drop fixed_places ls ∙ as_many
+    extra_long = length-drop fixed_places ls ∙ as_many
 
     -- the extras as they stand then
     extras-read : records f.extras (extras_at f.offset) d ≡ extra
     unfolding tail_of with_leases
     extras-read =
-        rw (← extra-long)
-        (extras-back (extras ls) extra laid (each-drop _ fixed_places ls (places_sizes ls sound)))
+        rw (← extra_long)
+        (extras-back (extras ls) extra laid (each_drop _ fixed_places ls (places_sizes ls sound)))
 
-    pub drop-tail : recounted f d ≡ leased_as c (drop_tail ls)
+    pub drop_tail_lem : recounted f d ≡ leased_as c (drop_tail ls)
     unfolding with_leases
-    drop-tail =
+    drop_tail_lem =
         let n : ℕ = length (trim extra) in
         let j : ℕ = record_size * (extras ls - n) in
         let u : List ℕ = digits count_size (extras ls) ++ join (trim extra) in
-        let few : n ≤ f.extras = omega (arith, length-trim extra, extra-long) in
-        let w = put-tail (tail-less laid j u (tail-split Q as_long sound) (omega (arith, as_many)))
+        let few : n ≤ f.extras = omega (arith, length-trim extra, extra_long) in
+        let w = put-tail (tail_less laid j u (tail_split Q as_long sound) (omega (arith, as_many)))
         f.offset 0 (digits count_size n) (omega arith)
         (omega (arith, length_digits count_size n, as_many)) in
         rw extras-read
-        (leased (drop_tail ls) (size - j) _ (rw (← tail-trimmed Q as_long, ← head-trimmed Q as_long) w)
-        (rw (extras-trimmed Q as_long) (omega (arith, as_many))))
+        (leased (drop_tail ls) (size - j) _ (rw (← tail_trimmed Q as_long, ← head_trimmed Q as_long) w)
+        (rw (extras_trimmed Q as_long) (omega (arith, as_many))))
 
   -- one place emptied, and the tail dropped
-  pub drop-place : (i : ℕ) → i < fixed_places + f.extras → (d : List ℕ) → d ≡ put (place_at f.offset i) no_lease c →
+  pub drop_place : (i : ℕ) → i < fixed_places + f.extras → (d : List ℕ) → d ≡ put (place_at f.offset i) no_lease c →
       recounted f d ≡ leased_as c (drop_tail (set (leases_of c) i no_lease))
   unfolding parts_of
-  drop-place i h d e =
-      drop-tail (set (leases_of c) i no_lease) (length-set (leases_of c) i no_lease)
+  drop_place i h d e =
+      drop_tail_lem (set (leases_of c) i no_lease) (length-set (leases_of c) i no_lease)
       (each_set Place (leases_of c) i no_lease valid.places no_lease_lem) d
-      (rw e (laid-set i no_lease h no_lease_lem.size))
+      (rw e (laid_set i no_lease h no_lease_lem.size))
 
   -- a place that keeps the later expiry
   module _ (i x p : ℕ) (h : i < fixed_places + f.extras) (q : p ≡ place_at f.offset i) where
@@ -367,22 +367,22 @@ module _ (c : List ℕ) (f : Frame) (k : Known c f) (o : Octets c) where
     lr : length r ≡ record_size
     lr = length-take-le record_size (drop p c) (rw length-drop (omega (arith, ends)))
 
-    is-lease : get_or (leases_of c) i [] ≡ r
-    is-lease = lease-at c f k i h ∙ rw q
+    is_lease_lem : get_or (leases_of c) i [] ≡ r
+    is_lease_lem = lease_at c f k i h ∙ rw q
 
-    pub put-expiry : number_at 4 (p + expiry_at) c < x →
+    pub put_expiry : number_at 4 (p + expiry_at) c < x →
         put (p + expiry_at) (digits 4 x) c ≡ leased_as c (extended x (leases_of c) i)
     unfolding extended
-    put-expiry l =
+    put_expiry l =
         let ld : length (digits 4 x) ≡ 4 = length_digits 4 x in
         put-within p expiry_at record_size (digits 4 x) c (omega arith) ends
         ∙ ap₂ (λ (a : ℕ) (y : List ℕ). put a y c) q (later-put x r (omega (arith, expiry_at_lem p c)))
-        ∙ put-place i (later x r) h (length-later x r lr) ∙ rw is-lease
+        ∙ put_place i (later x r) h (length-later x r lr) ∙ rw is_lease_lem
 
-    pub keep-expiry : x ≤ number_at 4 (p + expiry_at) c → c ≡ leased_as c (extended x (leases_of c) i)
+    pub keep_expiry : x ≤ number_at 4 (p + expiry_at) c → c ≡ leased_as c (extended x (leases_of c) i)
     unfolding extended with_leases parts_of
-    keep-expiry l =
+    keep_expiry l =
         let or : Octets r = octets_take record_size (drop p c) (octets_drop p c o) in
         let y : later x (get_or (leases_of c) i []) ≡ get_or (leases_of c) i [] =
-        rw is-lease (later_same x r lr or (omega (arith, expiry_at_lem p c))) in
+        rw is_lease_lem (later_same x r lr or (omega (arith, expiry_at_lem p c))) in
         sym (rw (y, set-get_or (leases_of c) i []) (encode_parts c k.formed o))

@@ -29,7 +29,7 @@ use Rattle.format.specs.Judging.{Known}
 use Rattle.leases.specs.Places.{has_token, found_of}
 use Rattle.leases.specs.Operations.{lease_outcome, lease_done, lease_container}
 use Rattle.leases.proofs.PlaceLaws.{present-append, known_places}
-use Rattle.format.proofs.KnownLaws.{extras-framed}
+use Rattle.format.proofs.KnownLaws.{extras_framed}
 use Rattle.leases.specs.Changes.{leased_as}
 use Rattle.leases.proofs.ChangeLaws.{used_leases, extras_more}
 use Rattle.leases.specs.declared.places.Found.TheVariants.{At, Nowhere}
@@ -55,21 +55,21 @@ found_inside c f k test i q =
     omega (arith, (first_found test (leases_of c) i (found_at _ i q)).inside, known_places c f k)
 
 module _ (c t : List ℕ) where
-  renewal-at : (i : ℕ) → Finds c (has_token renewal_at t) (At i) → first_of (renewed_by t) (leases_of c) ≡ some i
+  renewal_at_lem : (i : ℕ) → Finds c (has_token renewal_at t) (At i) → first_of (renewed_by t) (leases_of c) ≡ some i
   unfolding has_token renewed_by renewal_of
-  renewal-at i q = found_at _ i q
+  renewal_at_lem i q = found_at _ i q
 
-  renewal-nowhere : Finds c (has_token renewal_at t) Nowhere → first_of (renewed_by t) (leases_of c) ≡ none
+  renewal_nowhere : Finds c (has_token renewal_at t) Nowhere → first_of (renewed_by t) (leases_of c) ≡ none
   unfolding has_token renewed_by renewal_of
-  renewal-nowhere q = found_nowhere _ q
+  renewal_nowhere q = found_nowhere _ q
 
-  cancel-at : (i : ℕ) → Finds c (has_token cancel_at t) (At i) → first_of (cancelled_by t) (leases_of c) ≡ some i
+  cancel_at_lem : (i : ℕ) → Finds c (has_token cancel_at t) (At i) → first_of (cancelled_by t) (leases_of c) ≡ some i
   unfolding has_token cancelled_by cancel_of
-  cancel-at i q = found_at _ i q
+  cancel_at_lem i q = found_at _ i q
 
-  cancel-nowhere : Finds c (has_token cancel_at t) Nowhere → first_of (cancelled_by t) (leases_of c) ≡ none
+  cancel_nowhere : Finds c (has_token cancel_at t) Nowhere → first_of (cancelled_by t) (leases_of c) ≡ none
   unfolding has_token cancelled_by cancel_of
-  cancel-nowhere q = found_nowhere _ q
+  cancel_nowhere q = found_nowhere _ q
 
 -- ---- how many leases there are afterwards
 present-set : (ls : List (List ℕ)) (i : ℕ) (r : List ℕ) (a b : Bool) → i < length ls → held (get_or ls i []) ≡ a →
@@ -141,10 +141,10 @@ module _ (p : Parts) (r : List ℕ) where
   unfolding lease_outcome rows admit_rows find_rows room_rows first_row
   fitting b ls e a u = rw (e, a, u)
 
-  add-known : (i : ℕ) → Valid p → first_of (renewed_by (renewal_of r)) p.leases ≡ some i →
+  add_known : (i : ℕ) → Valid p → first_of (renewed_by (renewal_of r)) p.leases ≡ some i →
       Leaves p (add r) (extended (expiry_of r) p.leases i)
   unfolding knows is_some after added maybe extended
-  add-known i v e =
+  add_known i v e =
       let ls : List (List ℕ) = extended (expiry_of r) p.leases i in
       let l : length ls ≡ length p.leases = length-set p.leases i _ in
       let n = and-false (leb lease_limit (present p.leases)) in
@@ -175,13 +175,13 @@ module _ (p : Parts) (r : List ℕ) where
         abbrev more : List (List ℕ)
         more = p.leases ++ (r ∷ [])
 
-        add-room : p.room < used (with_leases p more) → lease_outcome p (add r) ≡ 11
+        add_room : p.room < used (with_leases p more) → lease_outcome p (add r) ≡ 11
         unfolding maybe
-        add-room u = fitting true more few (placed none q) (lt-ltb _ _ u)
+        add_room u = fitting true more few (placed none q) (lt-ltb _ _ u)
 
-        add-extra : used (with_leases p more) ≤ p.room → Leaves p (add r) more
+        add_extra : used (with_leases p more) ≤ p.room → Leaves p (add r) more
         unfolding maybe
-        add-extra u = (fitting false more few (placed none q) (le-ltb _ _ u), placed none q)
+        add_extra u = (fitting false more few (placed none q) (le-ltb _ _ u), placed none q)
 
 -- ---- the two kinds of answer
 abbrev pub Answered : List ℕ → Request → ℕ → ℕ → List ℕ → Type 0
@@ -213,17 +213,17 @@ module _ (c : List ℕ) (f : Frame) (k : Known c f) where
       sym (present-extended x (leases_of c) i h (each_at Place (leases_of c) i [] h valid.places).size)
 
   module _ (t : List ℕ) (x : ℕ) where
-    pub renew-here : (i n : ℕ) (d : List ℕ) → Finds c (has_token renewal_at t) (At i) → n ≡ present (leases_of c) →
+    pub renew_here : (i n : ℕ) (d : List ℕ) → Finds c (has_token renewal_at t) (At i) → n ≡ present (leases_of c) →
         d ≡ leased_as c (extended x (leases_of c) i) → Answered c (renew t x) 0 n d
     unfolding parts_of counted
-    renew-here i n d q m w =
-        let g = renewal-at c t i q in
+    renew_here i n d q m w =
+        let g = renewal_at_lem c t i q in
         done c (renew t x) (extended x (leases_of c) i) n d (renew-some (parts_of c) t x i g) refl
         (m ∙ same-present (renewed_by t) x i g) w
 
-    pub renew-unknown : Finds c (has_token renewal_at t) Nowhere → Answered c (renew t x) 9 0 c
+    pub renew_unknown : Finds c (has_token renewal_at t) Nowhere → Answered c (renew t x) 9 0 c
     unfolding parts_of
-    renew-unknown q = refused c (renew t x) 8 (renew-none (parts_of c) t x (renewal-nowhere c t q))
+    renew_unknown q = refused c (renew t x) 8 (renew-none (parts_of c) t x (renewal_nowhere c t q))
 
   module _ (t : List ℕ) where
     -- the lease that is cancelled is one of those present
@@ -231,7 +231,7 @@ module _ (c : List ℕ) (f : Frame) (k : Known c f) where
         present (drop_tail (set (leases_of c) i no_lease)) + 1 ≡ present (leases_of c)
     unfolding cancelled_by
     cancelled-present i q =
-        let g = first_found (cancelled_by t) (leases_of c) i (cancel-at c t i q) in
+        let g = first_found (cancelled_by t) (leases_of c) i (cancel_at_lem c t i q) in
         let h : held (get_or (leases_of c) i []) ≡ true = (both _ _ g.passes).0 in
         omega (
           arith,
@@ -239,48 +239,48 @@ module _ (c : List ℕ) (f : Frame) (k : Known c f) where
           present-set (leases_of c) i no_lease true false g.inside h no_lease-held,
         )
 
-    pub cancel-here : (i n : ℕ) (d : List ℕ) → Finds c (has_token cancel_at t) (At i) → n ≡ present (leases_of c) →
+    pub cancel_here : (i n : ℕ) (d : List ℕ) → Finds c (has_token cancel_at t) (At i) → n ≡ present (leases_of c) →
         d ≡ leased_as c (drop_tail (set (leases_of c) i no_lease)) → Answered c (cancel t) 0 (n - 1) d
     unfolding parts_of counted
-    cancel-here i n d q m w =
-        let e = cancel-some (parts_of c) t i (cancel-at c t i q) in
+    cancel_here i n d q m w =
+        let e = cancel-some (parts_of c) t i (cancel_at_lem c t i q) in
         done c (cancel t) (drop_tail (set (leases_of c) i no_lease)) (n - 1) d e refl
         (omega (arith, m, cancelled-present i q)) w
 
-    pub cancel-unknown : Finds c (has_token cancel_at t) Nowhere → Answered c (cancel t) 9 0 c
+    pub cancel_unknown : Finds c (has_token cancel_at t) Nowhere → Answered c (cancel t) 9 0 c
     unfolding parts_of
-    cancel-unknown q = refused c (cancel t) 8 (cancel-none (parts_of c) t (cancel-nowhere c t q))
+    cancel_unknown q = refused c (cancel t) 8 (cancel-none (parts_of c) t (cancel_nowhere c t q))
 
   module _ (r : List ℕ) where
-    pub add-here : (i n x : ℕ) (d : List ℕ) → Finds c (has_token renewal_at (renewal_of r)) (At i) →
+    pub add_here : (i n x : ℕ) (d : List ℕ) → Finds c (has_token renewal_at (renewal_of r)) (At i) →
         n ≡ present (leases_of c) → x ≡ expiry_of r → d ≡ leased_as c (extended x (leases_of c) i) →
         Answered c (add r) 0 n d
     unfolding parts_of counted
-    add-here i n x d q m y w =
-        let g = renewal-at c (renewal_of r) i q in
-        done c (add r) (extended (expiry_of r) (leases_of c) i) n d (add-known (parts_of c) r i valid g) refl
+    add_here i n x d q m y w =
+        let g = renewal_at_lem c (renewal_of r) i q in
+        done c (add r) (extended (expiry_of r) (leases_of c) i) n d (add_known (parts_of c) r i valid g) refl
         (m ∙ same-present (renewed_by (renewal_of r)) (expiry_of r) i g)
         (w ∙ ap (λ (v : ℕ). leased_as c (extended v (leases_of c) i)) y)
 
-    pub add-new : Finds c (has_token renewal_at (renewal_of r)) Nowhere →
+    pub add_new : Finds c (has_token renewal_at (renewal_of r)) Nowhere →
         knows (renewed_by (renewal_of r)) (leases_of c) ≡ false
     unfolding knows is_some
-    add-new q = ap is_some (renewal-nowhere c (renewal_of r) q)
+    add_new q = ap is_some (renewal_nowhere c (renewal_of r) q)
 
     module _ (u : knows (renewed_by (renewal_of r)) (leases_of c) ≡ false) where
       new : first_of (renewed_by (renewal_of r)) (leases_of c) ≡ none
       unfolding knows
       new = is_none _ u
 
-      pub place-full : lease_limit ≤ present (leases_of c) → Answered c (add r) 10 0 c
+      pub place_full : lease_limit ≤ present (leases_of c) → Answered c (add r) 10 0 c
       unfolding parts_of
-      place-full h = refused c (add r) 9 (add-full (parts_of c) r new h)
+      place_full h = refused c (add r) 9 (add-full (parts_of c) r new h)
 
       module _ (n : ℕ) (l : n < lease_limit) (m : n ≡ present (leases_of c)) where
-        pub place-vacant : (i : ℕ) (d : List ℕ) → Finds c vacant (At i) → held r ≡ true →
+        pub place_vacant : (i : ℕ) (d : List ℕ) → Finds c vacant (At i) → held r ≡ true →
             d ≡ leased_as c (set (leases_of c) i r) → Answered c (add r) 0 (n + 1) d
         unfolding parts_of counted vacant
-        place-vacant i d q h w =
+        place_vacant i d q h w =
             let e = found_at _ i q in
             let g = first_found vacant (leases_of c) i e in
             let p = present-set (leases_of c) i r false true g.inside (not-true _ g.passes) h in
@@ -288,22 +288,22 @@ module _ (c : List ℕ) (f : Frame) (k : Known c f) where
             done c (add r) (set (leases_of c) i r) (n + 1) d b refl (omega (arith, m, p)) w
 
         module _ (q : Finds c vacant Nowhere) where
-          used-more : used (with_leases (parts_of c) (leases_of c ++ (r ∷ []))) ≡ used_length f.offset (f.extras + 1)
-          used-more =
+          used_more : used (with_leases (parts_of c) (leases_of c ++ (r ∷ []))) ≡ used_length f.offset (f.extras + 1)
+          used_more =
               used_leases c f k (leases_of c ++ (r ∷ []))
-              ∙ rw (extras_more (leases_of c) r (omega (arith, known_places c f k)), extras-framed k)
+              ∙ rw (extras_more (leases_of c) r (omega (arith, known_places c f k)), extras_framed k)
 
-          pub place-nowhere : length c < used_length f.offset (f.extras + 1) → Answered c (add r) 11 0 c
+          pub place_nowhere : length c < used_length f.offset (f.extras + 1) → Answered c (add r) 11 0 c
           unfolding parts_of
-          place-nowhere h =
+          place_nowhere h =
               refused c (add r) 10
-              (add-room (parts_of c) r new (omega (arith, m)) (found_nowhere _ q) (omega (arith, h, used-more)))
+              (add_room (parts_of c) r new (omega (arith, m)) (found_nowhere _ q) (omega (arith, h, used_more)))
 
-          pub place-extra : (d : List ℕ) → used_length f.offset (f.extras + 1) ≤ length c → held r ≡ true →
+          pub place_extra : (d : List ℕ) → used_length f.offset (f.extras + 1) ≤ length c → held r ≡ true →
               d ≡ leased_as c (leases_of c ++ (r ∷ [])) → Answered c (add r) 0 (n + 1) d
           unfolding parts_of counted present
-          place-extra d h g w =
+          place_extra d h g w =
               let p : present (leases_of c ++ (r ∷ [])) ≡ n + 1 = present-append (leases_of c) (r ∷ []) ∙ rw (g, ← m) in
               let g = found_nowhere _ q in
-              let b = add-extra (parts_of c) r new (omega (arith, m)) g (omega (arith, h, used-more)) in
+              let b = add_extra (parts_of c) r new (omega (arith, m)) g (omega (arith, h, used_more)) in
               done c (add r) (leases_of c ++ (r ∷ [])) (n + 1) d b refl (sym p) w

@@ -25,14 +25,14 @@ use Rattle.rules.proofs.LeaseLaws.{length-trim}
 use Rattle.format.specs.Judging.{Known}
 use Rattle.octets.specs.Lists.{maybe}
 use Rattle.format.proofs.JudgingLaws.{Sized, known_sized, known_most}
-use Rattle.format.proofs.KnownLaws.{frame-count, frame-extras}
+use Rattle.format.proofs.KnownLaws.{frame_count, frame_extras}
 
 -- ---- a known container in numbers
 pub known_bounds : (c : List ℕ) (f : Frame) → Known c f → Sized c f × (length c ≤ limit)
 known_bounds c f k = (known_sized c f k, known_most c f k)
 
 pub known_places : (c : List ℕ) (f : Frame) → Known c f → length (leases_of c) ≡ fixed_places + f.extras
-known_places c f k = rw (frame-extras k) (length_leases c)
+known_places c f k = rw (frame_extras k) (length_leases c)
 
 -- ---- one place
 pub fixed_at : (o i : ℕ) → i < fixed_places → place_at o i ≡ leases_at + record_size * i
@@ -58,15 +58,15 @@ module _ (c : List ℕ) (f : Frame) (k : Known c f) (i : ℕ) (h : i < fixed_pla
       by_place i (λ g. rw (fixed_at f.offset i g) (omega arith))
       (λ g. rw (extra_at f.offset i g) (omega arith))
 
-  pub lease-at : get_or (leases_of c) i [] ≡ take record_size (drop (place_at f.offset i) c)
+  pub lease_at : get_or (leases_of c) i [] ≡ take record_size (drop (place_at f.offset i) c)
   unfolding leases_of
-  lease-at = by_place i
+  lease_at = by_place i
       (λ g. rw (fixed_at f.offset i g)
       (get_or-append a b [] i (rw (length-records fixed_places leases_at c) g) ∙ record_at_lem fixed_places leases_at i c g))
-      (λ g. rw (extra_at f.offset i g, frame-count k)
+      (λ g. rw (extra_at f.offset i g, frame_count k)
       (let z : i ≡ length a + (i - fixed_places) = rw (length-records fixed_places leases_at c) (omega arith) in
       ap (λ (j : ℕ). get_or (a ++ b) j []) z ∙ get_or-append-add a b (i - fixed_places) []
-      ∙ record_at_lem (extras_of c) (extras_at (count_at c)) (i - fixed_places) c (omega (arith, frame-extras k))))
+      ∙ record_at_lem (extras_of c) (extras_at (count_at c)) (i - fixed_places) c (omega (arith, frame_extras k))))
     where
       a : List (List ℕ)
       a = records fixed_places leases_at c
@@ -95,18 +95,18 @@ module _ (test : List ℕ → Bool) where
   abbrev Failed : List (List ℕ) → ℕ → Type 0
   Failed ls i = (k : ℕ) → k < i → test (get_or ls k []) ≡ false
 
-  first-at : (ls : List (List ℕ)) (i : ℕ) → Failed ls i → i < length ls → test (get_or ls i []) ≡ true →
+  first_at : (ls : List (List ℕ)) (i : ℕ) → Failed ls i → i < length ls → test (get_or ls i []) ≡ true →
       first_of test ls ≡ some i
   unfolding first_of maybe
-  first-at [] i h l e = absurd (omega arith)
-  first-at (r ∷ ls) zero h l e = rw e
-  first-at (r ∷ ls) (suc i) h l e =
-      rw (h 0 (omega arith), first-at ls i (λ k q. h (suc k) (omega arith)) (omega arith) e)
+  first_at [] i h l e = absurd (omega arith)
+  first_at (r ∷ ls) zero h l e = rw e
+  first_at (r ∷ ls) (suc i) h l e =
+      rw (h 0 (omega arith), first_at ls i (λ k q. h (suc k) (omega arith)) (omega arith) e)
 
-  first-none : (ls : List (List ℕ)) → Failed ls (length ls) → first_of test ls ≡ none
+  first_none : (ls : List (List ℕ)) → Failed ls (length ls) → first_of test ls ≡ none
   unfolding first_of maybe
-  first-none [] h = refl
-  first-none (r ∷ ls) h = rw (h 0 (omega arith), first-none ls (λ k q. h (suc k) (omega arith)))
+  first_none [] h = refl
+  first_none (r ∷ ls) h = rw (h 0 (omega arith), first_none ls (λ k q. h (suc k) (omega arith)))
 
 -- no place before i passes the test
 abbrev pub Passed : (List ℕ → Bool) → List ℕ → ℕ → Type 0
@@ -115,16 +115,16 @@ Passed test c i = (k : ℕ) → k < i → test (get_or (leases_of c) k []) ≡ f
 module _ (test : List ℕ → Bool) (c : List ℕ) (f : Frame) (k : Known c f) (i : ℕ) (n : Passed test c i) where
   module _ (p : ℕ) (h : i < fixed_places + f.extras) (q : p ≡ place_at f.offset i) where
     read : (t : Bool) → test (take record_size (drop p c)) ≡ t → test (get_or (leases_of c) i []) ≡ t
-    read t e = ap test (lease-at c f k i h) ∙ rw (← q) e
+    read t e = ap test (lease_at c f k i h) ∙ rw (← q) e
 
     pub passed_here : test (take record_size (drop p c)) ≡ true → first_of test (leases_of c) ≡ some i
-    passed_here e = first-at test (leases_of c) i n (omega (arith, known_places c f k)) (read true e)
+    passed_here e = first_at test (leases_of c) i n (omega (arith, known_places c f k)) (read true e)
 
-    pub passed-more : test (take record_size (drop p c)) ≡ false → Passed test c (i + 1)
-    passed-more e = below_more (λ (j : ℕ). test (get_or (leases_of c) j []) ≡ false) i n (read false e)
+    pub passed_more : test (take record_size (drop p c)) ≡ false → Passed test c (i + 1)
+    passed_more e = below_more (λ (j : ℕ). test (get_or (leases_of c) j []) ≡ false) i n (read false e)
 
-  pub passed-all : fixed_places + f.extras ≤ i → first_of test (leases_of c) ≡ none
-  passed-all h = first-none test (leases_of c) (λ j q. n j (omega (arith, known_places c f k)))
+  pub passed_all : fixed_places + f.extras ≤ i → first_of test (leases_of c) ≡ none
+  passed_all h = first_none test (leases_of c) (λ j q. n j (omega (arith, known_places c f k)))
 
 -- ---- how many hold a lease
 pub present-append : (a b : List (List ℕ)) → present (a ++ b) ≡ present a + present b
@@ -164,8 +164,8 @@ unfolding leases_of
 present_leases c f k =
     rw (
       present-append (records fixed_places leases_at c) (records (extras_of c) (extras_at (count_at c)) c),
-      frame-count k,
-      frame-extras k,
+      frame_count k,
+      frame_extras k,
     )
 
 -- ---- without the empty tail
@@ -189,19 +189,19 @@ module _ (n p : ℕ) (c : List ℕ) (h : 0 < n) where
   last = take record_size (drop (p + record_size * (n - 1)) c)
 
   -- the last of n places, taken off
-  records-last : records n p c ≡ records (n - 1) p c ++ (last ∷ [])
+  records_last : records n p c ≡ records (n - 1) p c ++ (last ∷ [])
   unfolding records
-  records-last =
+  records_last =
       let e : n ≡ n - 1 + 1 = omega arith in
       ap (λ (m : ℕ). records m p c) e ∙ records-add (n - 1) 1 p c
 
-  pub kept-all : held last ≡ true → length (trim (records n p c)) ≡ n
-  kept-all e =
-      ap length (ap trim records-last ∙ trim-held (records (n - 1) p c) last e ∙ sym records-last)
+  pub kept_all : held last ≡ true → length (trim (records n p c)) ≡ n
+  kept_all e =
+      ap length (ap trim records_last ∙ trim-held (records (n - 1) p c) last e ∙ sym records_last)
       ∙ length-records n p c
 
-  pub kept-fewer : held last ≡ false → trim (records n p c) ≡ trim (records (n - 1) p c)
-  kept-fewer e = ap trim records-last ∙ trim-empty (records (n - 1) p c) last e
+  pub kept_fewer : held last ≡ false → trim (records n p c) ≡ trim (records (n - 1) p c)
+  kept_fewer e = ap trim records_last ∙ trim-empty (records (n - 1) p c) last e
 
 pub kept-none : (n p : ℕ) (c : List ℕ) → n ≤ 0 → length (trim (records n p c)) ≡ 0
 unfolding records trim

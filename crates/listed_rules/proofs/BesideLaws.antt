@@ -36,36 +36,36 @@ module _ (c l q : List ℕ) (n : ℕ) where
   unfolding outcome_beside outcome first_row
   beside-malformed w = rw w
 
-  good-rows : well_formed c ≡ true → list_ok l (data_of c) ≡ true →
+  good_rows : well_formed c ≡ true → list_ok l (data_of c) ≡ true →
       outcome_beside c l q n
       ≡ first_row (request_rows (parts_of c) (request_of q) n ++ many_rows (parts_of c) (request_of q) (stretches_of l))
   unfolding outcome_beside first_row
-  good-rows w k = rw (formed_length c w, w, k)
+  good_rows w k = rw (formed_length c w, w, k)
 
-  beside-bad : well_formed c ≡ true → list_ok l (data_of c) ≡ false → outcome_beside c l q n ≡ 16
+  beside_bad : well_formed c ≡ true → list_ok l (data_of c) ≡ false → outcome_beside c l q n ≡ 16
   unfolding outcome_beside first_row
-  beside-bad w k = rw (formed_length c w, w, k)
+  beside_bad w k = rw (formed_length c w, w, k)
 
-  beside-good : well_formed c ≡ true → list_ok l (data_of c) ≡ true →
+  beside_good : well_formed c ≡ true → list_ok l (data_of c) ≡ true →
       outcome_beside c l q n ≡ beside_by true (outcome c q n) (ltb row_limit (length (next_of c l q)))
   unfolding beside_by first_row
-  beside-good w k =
-      good-rows w k
+  beside_good w k =
+      good_rows w k
       ∙ rows_append (request_rows (parts_of c) (request_of q) n) (many_rows (parts_of c) (request_of q) (stretches_of l))
       (request_numbered (parts_of c) (request_of q) n)
       ∙ rw (outcome_formed c q n w)
 
   -- then 16, the container's own, and 13 where that would be 0
-  pub beside-formed : well_formed c ≡ true →
+  pub beside_formed : well_formed c ≡ true →
       outcome_beside c l q n
       ≡ beside_by (list_ok l (data_of c)) (outcome c q n) (ltb row_limit (length (next_of c l q)))
   unfolding beside_by
-  beside-formed w = go (list_ok l (data_of c)) refl
+  beside_formed w = go (list_ok l (data_of c)) refl
     where
       go : (b : Bool) → list_ok l (data_of c) ≡ b →
           outcome_beside c l q n ≡ beside_by b (outcome c q n) (ltb row_limit (length (next_of c l q)))
-      go true k = beside-good w k
-      go false k = beside-bad w k
+      go true k = beside_good w k
+      go false k = beside_bad w k
 
 -- The ways to end: 1 or 2; 16; refused by the container's own rows; 13; done.
 pub data Ends (c l q : List ℕ) (n : ℕ) : Type 0 where
@@ -87,16 +87,16 @@ ends c l q n = formed (well_formed c) refl
 
     few : well_formed c ≡ true → list_ok l (data_of c) ≡ true → outcome c q n ≡ 0 → (b : Bool) → ltb row_limit m ≡ b →
         Ends c l q n
-    few w k z true e = too_many w k z (ltb-true row_limit m e) (beside-formed c l q n w ∙ rw (k, z, e))
-    few w k z false e = done w k z (ltb-false row_limit m e) (beside-formed c l q n w ∙ rw (k, z, e))
+    few w k z true e = too_many w k z (ltb-true row_limit m e) (beside_formed c l q n w ∙ rw (k, z, e))
+    few w k z false e = done w k z (ltb-false row_limit m e) (beside_formed c l q n w ∙ rw (k, z, e))
 
     own : well_formed c ≡ true → list_ok l (data_of c) ≡ true → (b : Bool) → eqb (outcome c q n) 0 ≡ b → Ends c l q n
     own w k true e = few w k (eqb-true (outcome c q n) 0 e) (ltb row_limit m) refl
-    own w k false e = refused w k (eqb-false (outcome c q n) 0 e) (beside-formed c l q n w ∙ rw (k, e))
+    own w k false e = refused w k (eqb-false (outcome c q n) 0 e) (beside_formed c l q n w ∙ rw (k, e))
 
     good : well_formed c ≡ true → (b : Bool) → list_ok l (data_of c) ≡ b → Ends c l q n
     good w true k = own w k (eqb (outcome c q n) 0) refl
-    good w false k = bad_list w k (beside-formed c l q n w ∙ rw k)
+    good w false k = bad_list w k (beside_formed c l q n w ∙ rw k)
 
     formed : (b : Bool) → well_formed c ≡ b → Ends c l q n
     formed true w = good w (list_ok l (data_of c)) refl
@@ -109,22 +109,22 @@ module _ (c l q r : List ℕ) where
   beside-number = answer-number (outcome_beside c l q (length r)) (parts_of c) (request_of q)
 
   -- with the container's own number all is as without a list
-  pub own-by : outcome_beside c l q (length r) ≡ outcome c q (length r) → Own c l q r
+  pub own_by : outcome_beside c l q (length r) ≡ outcome c q (length r) → Own c l q r
   unfolding answered_beside container_beside reply_beside answered container_after reply_after
-  own-by e = record { answer = rw e; container = rw e; reply = rw e }
+  own_by e = record { answer = rw e; container = rw e; reply = rw e }
 
-  pub list-kept : (outcome_beside c l q (length r) ≡ 0 → ⊥) → list_after c l q r ≡ l
+  pub list_kept : (outcome_beside c l q (length r) ≡ 0 → ⊥) → list_after c l q r ≡ l
   unfolding list_after
-  list-kept h = rw (ne_eqb (outcome_beside c l q (length r)) 0 h)
+  list_kept h = rw (ne_eqb (outcome_beside c l q (length r)) 0 h)
 
-  pub list-moved : outcome_beside c l q (length r) ≡ 0 → list_after c l q r ≡ list_to (parts_of c) (request_of q) l
+  pub list_moved : outcome_beside c l q (length r) ≡ 0 → list_after c l q r ≡ list_to (parts_of c) (request_of q) l
   unfolding list_after
-  list-moved e = rw e
+  list_moved e = rw e
 
-  pub container-kept : (outcome_beside c l q (length r) ≡ 0 → ⊥) → container_beside c l q r ≡ c
+  pub container_kept : (outcome_beside c l q (length r) ≡ 0 → ⊥) → container_beside c l q r ≡ c
   unfolding container_beside
-  container-kept h = rw (ne_eqb (outcome_beside c l q (length r)) 0 h)
+  container_kept h = rw (ne_eqb (outcome_beside c l q (length r)) 0 h)
 
-  pub reply-kept : replies (outcome_beside c l q (length r)) ≡ false → reply_beside c l q r ≡ r
+  pub reply_kept : replies (outcome_beside c l q (length r)) ≡ false → reply_beside c l q r ≡ r
   unfolding reply_beside
-  reply-kept e = rw e
+  reply_kept e = rw e

@@ -10,7 +10,7 @@ use lib.Dec.{eqb}
 use borrow.Author.Tests.{eqb-false}
 use Rattle.format.specs.Layout.{data_of}
 use Rattle.format.specs.Parts.{encode, fresh}
-use Rattle.format.proofs.RoundTrip.{encode-formed, leases-encode, data-encode}
+use Rattle.format.proofs.RoundTrip.{encode_formed, leases_encode, data_encode}
 use Rattle.rules.specs.Changes.{Change, byte_over, byte_after}
 use Rattle.rules.specs.Outcomes.{create_outcome}
 use Rattle.rules.proofs.Demand1.{created, created_valid}
@@ -28,8 +28,8 @@ use Rattle.listed_rules.specs.Runs.{Slot, Sent, hears_in, leaves_in, names_in, W
 use Rattle.listed_rules.specs.Runs.{rule_leaves_in}
 use Rattle.listed_rules.specs.Histories.{bad_list, no_place, ListTold, ByRulesBeside, AlikeBeside, Demand3Beside}
 use Rattle.listed_rules.specs.Histories.{fresh_slot, HistoriesBeside}
-use Rattle.listed_rules.proofs.Demand1.{demand-1-beside}
-use Rattle.listed_rules.proofs.Steps.{Sound, slot_of, stretches-back}
+use Rattle.listed_rules.proofs.Demand1.{demand_1_beside}
+use Rattle.listed_rules.proofs.Steps.{Sound, slot_of, stretches_back}
 use Rattle.listed_rules.proofs.RunLaws.{slot_good, Followed, followed, rule_changes, data_accepted}
 use Rattle.listed_rules.proofs.RunLaws.{stretches_accepted}
 
@@ -41,9 +41,9 @@ by_rules h s v w =
     record {
       heard = f.heard;
       buffer = ap (λ (x : Slot). x.container) f.left;
-      leases = rw f.left (leases-encode (final rule_leaves_in h s).parts f.sound.valid);
+      leases = rw f.left (leases_encode (final rule_leaves_in h s).parts f.sound.valid);
       list = ap (λ (x : Slot). x.list) f.left;
-      formed = rw f.left (encode-formed (final rule_leaves_in h s).parts f.sound.valid);
+      formed = rw f.left (encode_formed (final rule_leaves_in h s).parts f.sound.valid);
     }
 
 -- ---- from empty data and no stretches: what the list names, and the data
@@ -58,24 +58,24 @@ module _ (h : List Sent) (s : SlotParts) (v : Sound s) (w : WritesThrough h) (d 
   t : SlotParts
   t = final rule_leaves_in h s
 
-  did-is : rule_changes h s ≡ did
+  did_is : rule_changes h s ≡ did
   unfolding f
-  did-is = rw (f.heard, d)
+  did_is = rw (f.heard, d)
 
   told : Told did (data_of (final leaves_in h (slot_of s)).container)
   unfolding byte_after byte_over f t slot_of
   told =
       let e : data_of (final leaves_in h (slot_of s)).container ≡ perform_all did [] =
-      ap (λ (x : Slot). data_of x.container) f.left ∙ data-encode t.parts f.sound.valid
-      ∙ data_accepted h s ∙ rw (did-is, d) in
+      ap (λ (x : Slot). data_of x.container) f.left ∙ data_encode t.parts f.sound.valid
+      ∙ data_accepted h s ∙ rw (did_is, d) in
       rw e (record { size = length-perform_all did []; each = at_perform_all did [] })
 
-  list-told : ListTold h (slot_of s)
+  list_told : ListTold h (slot_of s)
   unfolding f t slot_of
-  list-told =
-      let e : t.stretches ≡ stretches_after did 0 [] = stretches_accepted h s w ∙ rw (did-is, d, z) in
+  list_told =
+      let e : t.stretches ≡ stretches_after did 0 [] = stretches_accepted h s w ∙ rw (did_is, d, z) in
       record {
-        exact = λ i. rw (f.left, stretches-back t f.sound, e) ((tracks did).exact i);
+        exact = λ i. rw (f.left, stretches_back t f.sound, e) ((tracks did).exact i);
         means = unwritten_is did;
         told = told;
         good = rw f.left (slot_good t f.sound);
@@ -108,7 +108,7 @@ own_call x s h k = go x.direct refl
     go : (b : Bool) → x.direct ≡ b → OwnCall x s
     go true d = record { heard = rw d; left = rw d }
     go false d =
-        through ((demand-1-beside s.container s.list x.call.request x.call.space).own
+        through ((demand_1_beside s.container s.list x.call.request x.call.space).own
         (eqb-false _ 13 (rw d at h)) (eqb-false _ 16 (rw d at k))) d
 
 pub record OwnRun (h : List Sent) (s : Slot) : Type 0 where
@@ -136,33 +136,33 @@ own_run (x ∷ h) s n m =
 
 -- ---- woven histories
 module _ (s : SlotParts) (v : Sound s) where
-  own-slot : (h : List Sent) → WritesThrough h → Never no_place (answers hears_in leaves_in h (slot_of s)) →
+  own_slot : (h : List Sent) → WritesThrough h → Never no_place (answers hears_in leaves_in h (slot_of s)) →
       OwnRun h (slot_of s)
-  own-slot h w n = own_run h (slot_of s) n (followed h s w v).never_bad
+  own_slot h w n = own_run h (slot_of s) n (followed h s w v).never_bad
 
-  roomy-slot : (h : List Sent) → WritesThrough h → Never no_place (answers hears_in leaves_in h (slot_of s)) →
+  roomy_slot : (h : List Sent) → WritesThrough h → Never no_place (answers hears_in leaves_in h (slot_of s)) →
       Never no_room (answers hears leaves (calls_of h) (encode s.parts))
   unfolding slot_of
-  roomy-slot h w n = rw (own-slot h w n).heard at (own-slot h w n).roomy
+  roomy_slot h w n = rw (own_slot h w n).heard at (own_slot h w n).roomy
 
-  list-is : (h : List Sent) (n : ℕ) → WritesThrough h → length s.parts.bytes ≡ n →
+  list_is : (h : List Sent) (n : ℕ) → WritesThrough h → length s.parts.bytes ≡ n →
       (final leaves_in h (slot_of s)).list
       ≡ list_bytes (stretches_after (accepted (calls_of h) (answers hears_in leaves_in h (slot_of s)) n) n s.stretches)
   unfolding slot_of
-  list-is h n w e =
+  list_is h n w e =
       let f : Followed h s = followed h s w v in
       ap (λ (x : Slot). x.list) f.left ∙ ap list_bytes (stretches_accepted h s w) ∙ rw (f.heard, e)
 
-  woven-alike-beside : s.parts.bytes ≡ [] → (h k : List Sent) → WritesThrough h → WritesThrough k →
+  woven_alike_beside : s.parts.bytes ≡ [] → (h k : List Sent) → WritesThrough h → WritesThrough k →
       Woven (calls_of h) (calls_of k) → Never no_place (answers hears_in leaves_in h (slot_of s)) →
       Never no_place (answers hears_in leaves_in k (slot_of s)) → AlikeBeside h k (slot_of s)
   unfolding slot_of
-  woven-alike-beside d h k wh wk w nh nk =
-      let oh : OwnRun h (slot_of s) = own-slot h wh nh in
-      let ok : OwnRun k (slot_of s) = own-slot k wk nk in
+  woven_alike_beside d h k wh wk w nh nk =
+      let oh : OwnRun h (slot_of s) = own_slot h wh nh in
+      let ok : OwnRun k (slot_of s) = own_slot k wk nk in
       let a : Alike (calls_of h) (calls_of k) (encode s.parts) =
-      woven_alike (calls_of h) (calls_of k) s.parts v.valid w (roomy-slot h wh nh) (roomy-slot k wk nk) in
-      let n : length (data_of (encode s.parts)) ≡ 0 = ap length (data-encode s.parts v.valid ∙ d) in
+      woven_alike (calls_of h) (calls_of k) s.parts v.valid w (roomy_slot h wh nh) (roomy_slot k wk nk) in
+      let n : length (data_of (encode s.parts)) ≡ 0 = ap length (data_encode s.parts v.valid ∙ d) in
       let e : accepted (calls_of h) (answers hears_in leaves_in h (slot_of s)) 0
       ≡ accepted (calls_of k) (answers hears_in leaves_in k (slot_of s)) 0 =
       rw (oh.heard, ok.heard) (rw n at a.changes_equal) in
@@ -171,9 +171,9 @@ module _ (s : SlotParts) (v : Sound s) where
         lease_heard = rw (oh.heard, ok.heard) a.lease_heard;
         container_equal = oh.left ∙ a.bytes_equal ∙ sym ok.left;
         list_equal =
-            list-is h 0 wh (ap length d)
+            list_is h 0 wh (ap length d)
             ∙ ap (λ (os : List Change). list_bytes (stretches_after os 0 s.stretches)) e
-            ∙ sym (list-is k 0 wk (ap length d));
+            ∙ sym (list_is k 0 wk (ap length d));
         positions_equal = rw (oh.named, ok.named) a.positions_equal;
         changes_equal = e;
       }
@@ -201,9 +201,9 @@ demand_3_fresh b node enabler e =
     let s : SlotParts = record { parts = fresh (length b) node enabler; stretches = [] } in
     let v : Sound s = fresh_sound b node enabler e in
     rw (fresh_slot_lem b node enabler e) (record {
-      woven = woven-alike-beside s v refl;
+      woven = woven_alike_beside s v refl;
       rules = λ h w. by_rules h s v w;
-      told = λ h w. list-told h s v w refl refl;
+      told = λ h w. list_told h s v w refl refl;
     })
 
 -- DEMAND 3

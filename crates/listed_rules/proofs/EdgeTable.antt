@@ -17,7 +17,7 @@ use Rattle.format.specs.Layout.{count_at, used_length, node_of, enabler_of, size
 use Rattle.format.specs.Layout.{owner_of, slack_of, moved_count}
 use Rattle.format.specs.Parts.{extras, count_in, used, parts_of, encode, no_lease, fresh, head_of, front_of, tail_of}
 use Rattle.format.specs.Claims.{Valid}
-use Rattle.format.proofs.RoundTrip.{data-encode, fresh_valid}
+use Rattle.format.proofs.RoundTrip.{data_encode, fresh_valid}
 use Rattle.rules.specs.Requests.{Write, test_write, entry_offset, entry_count, entry_opcode, entry_specimen, test_entry_ok}
 use Rattle.rules.specs.Requests.{all_from, sum_from, tests_from, writes_from, test_count, write_count, cut_flag, new_length}
 use Rattle.rules.specs.Requests.{writes_at, specimens_at, new_data_at, test_write_end, cut_ok, test_write_ok, cut_of, test_write_of}
@@ -48,7 +48,7 @@ use Rattle.listed_rules.specs.Edges.{number_of, refusals, refused, numbers_in, f
 use Rattle.listed_rules.specs.Edges.{gaps, gapped as gapResults, far_cut, fresh_in, dotted, Counted, counting}
 use Rattle.listed_rules.specs.Edges.{counts, crowded, counted, ListEdgesHold}
 use Rattle.listed_rules.proofs.BesideLaws.{beside-number}
-use Rattle.listed_rules.proofs.Steps.{Sound, sound_left, slot_of, stretches-back, hears-slot, leaves-slot}
+use Rattle.listed_rules.proofs.Steps.{Sound, sound_left, slot_of, stretches_back, hears_slot, leaves_slot}
 
 -- ---- requests one after the other, over parts and stretches: no container and no list is read
 abbrev sent : List ℕ → Sent
@@ -70,11 +70,11 @@ module _ (s : SlotParts) (v : Sound s) (q : List ℕ) where
   unfolding hears_in rule_hears_in
   number_by =
       sym (beside-number (slot_of s).container (slot_of s).list q space)
-      ∙ ap (λ (a : Heard). a.answer.number) (hears-slot s v (sent q))
+      ∙ ap (λ (a : Heard). a.answer.number) (hears_slot s v (sent q))
       ∙ answer-number (rule_outcome_beside (sent q).call s) s.parts (request_of q)
 
-  sound-by : Sound (rule_leaves_in (sent q) s)
-  sound-by = sound_left (sent q) s (λ e. absurd (false≢true e)) v
+  sound_by : Sound (rule_leaves_in (sent q) s)
+  sound_by = sound_left (sent q) s (λ e. absurd (false≢true e)) v
 
 -- container and list follow them
 record Carried (qs : List (List ℕ)) (s : SlotParts) : Type 0 where
@@ -86,8 +86,8 @@ carried : (qs : List (List ℕ)) (s : SlotParts) → Sound s → Carried qs s
 unfolding numbers_in numbers_by finally_in finally_by leaves_in
 carried [] s v = record { numbers = refl; left = refl; sound = v }
 carried (q ∷ qs) s v =
-    let f : Carried qs (rule_leaves_in (sent q) s) = carried qs (rule_leaves_in (sent q) s) (sound-by s v q) in
-    let l = leaves-slot s v (sent q) in
+    let f : Carried qs (rule_leaves_in (sent q) s) = carried qs (rule_leaves_in (sent q) s) (sound_by s v q) in
+    let l = leaves_slot s v (sent q) in
     record {
       numbers = ap₂ ◌∷◌ (number_by s v q) (ap (numbers_in qs) l ∙ f.numbers);
       left = ap (finally_in qs) l ∙ f.left;
@@ -99,7 +99,7 @@ unfolding listing slot_of
 listing_by_lem s v qs =
     let f : Carried qs s = carried qs s v in
     let t : SlotParts = finally_by qs s in
-    rw (f.numbers, f.left, data-encode t.parts f.sound.valid, stretches-back t f.sound)
+    rw (f.numbers, f.left, data_encode t.parts f.sound.valid, stretches_back t f.sound)
 
 -- a table, case by case
 map_by : {A B : Type 0} (f g : A → B) → ((x : A) → f x ≡ g x) → (xs : List A) → map f xs ≡ map g xs
@@ -147,8 +147,8 @@ counting_by_lem : (q : List ℕ) → counting q ≡ counting_by q
 unfolding counting counting_by slot_of crowded_by with_bytes moved_count fresh count_in leaves_in
 counting_by_lem q =
     let t : SlotParts = rule_leaves_in (sent q) crowded_by in
-    let l = ap (λ (x : Slot). x.list) (leaves-slot crowded_by crowded_sound (sent q)) in
-    rw (number_by crowded_by crowded_sound q, l, stretches-back t (sound-by crowded_by crowded_sound q))
+    let l = ap (λ (x : Slot). x.list) (leaves_slot crowded_by crowded_sound (sent q)) in
+    rw (number_by crowded_by crowded_sound q, l, stretches_back t (sound_by crowded_by crowded_sound q))
 
 -- ---- P62's write, whose own bytes are too many to write out: clipped to the final size, no gap is made
 far_write : List Write

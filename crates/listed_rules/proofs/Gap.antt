@@ -10,7 +10,7 @@ use Rattle.octets.specs.Facts.{Each}
 use Rattle.octets.specs.Lists.{or_else}
 use Rattle.format.specs.Layout.{data_of}
 use Rattle.format.specs.Parts.{fresh}
-use Rattle.format.proofs.RoundTrip.{data-encode}
+use Rattle.format.proofs.RoundTrip.{data_encode}
 use Rattle.rules.specs.Testing.{position}
 use Rattle.rules.specs.Writing.{Placed, placed}
 use Rattle.rules.specs.Changes.{within, covers, wrote, cut_at, size_after, changes_of, cut_change, write_changes}
@@ -28,7 +28,7 @@ use Rattle.listed_rules.specs.Runs.{Slot, Sent, hears_in, leaves_in, WritesThrou
 use Rattle.listed_rules.specs.Runs.{rule_leaves_in}
 use Rattle.listed_rules.specs.Gap.{GapAlone, CutsIn, WritesPast, after, Quiet, lists, GapListed}
 use Rattle.listed_rules.proofs.Steps.{Through, took_in, step_stretches, step_size, Sound, sound_left, slot_of}
-use Rattle.listed_rules.proofs.Steps.{stretches-back, hears-slot, leaves-slot}
+use Rattle.listed_rules.proofs.Steps.{stretches_back, hears_slot, leaves_slot}
 use Rattle.listed_rules.proofs.RunLaws.{Followed, followed, rule_changes, data_accepted, stretches_accepted}
 use Rattle.listed_rules.proofs.Demand3.{fresh_sound, fresh_slot_lem}
 
@@ -59,43 +59,43 @@ module _ (s : SlotParts) (v : Sound s) where
   abbrev n : ℕ
   n = length s.parts.bytes
 
-  size-slot : length (data_of (slot_of s).container) ≡ n
+  size_slot : length (data_of (slot_of s).container) ≡ n
   unfolding slot_of
-  size-slot = ap length (data-encode s.parts v.valid)
+  size_slot = ap length (data_encode s.parts v.valid)
 
-  lists-slot : (i : ℕ) → lists (slot_of s) i ≡ listed s.stretches i
+  lists_slot : (i : ℕ) → lists (slot_of s) i ≡ listed s.stretches i
   unfolding slot_of
-  lists-slot i = ap (λ (rs : List Stretch). listed rs i) (stretches-back s v)
+  lists_slot i = ap (λ (rs : List Stretch). listed rs i) (stretches_back s v)
 
   -- behind the data nothing is listed
   none_behind : (i : ℕ) → n ≤ i → lists (slot_of s) i ≡ false
-  none_behind i h = lists-slot i ∙ listed-high 0 s.stretches n i v.rises h
+  none_behind i h = lists_slot i ∙ listed-high 0 s.stretches n i v.rises h
 
-  heard-done : (x : Sent) → (hears_in x (slot_of s)).answer.number ≡ 0 → (rule_hears_in x s).answer.number ≡ 0
-  heard-done x e = sym (ap (λ (a : Heard). a.answer.number) (hears-slot s v x)) ∙ e
+  heard_done : (x : Sent) → (hears_in x (slot_of s)).answer.number ≡ 0 → (rule_hears_in x s).answer.number ≡ 0
+  heard_done x e = sym (ap (λ (a : Heard). a.answer.number) (hears_slot s v x)) ∙ e
 
-  took-past : (y : Sent) (p : ℕ) (q : WritesPast y (slot_of s) p) → took_in y s ≡ wrote p q.bytes ∷ []
+  took_past : (y : Sent) (p : ℕ) (q : WritesPast y (slot_of s) p) → took_in y s ≡ wrote p q.bytes ∷ []
   unfolding took_in took changes_of placed write_changes cut_change position or_else
-  took-past y p q = rw (heard-done y q.done, q.asks, rw size-slot at q.at)
+  took_past y p q = rw (heard_done y q.done, q.asks, rw size_slot at q.at)
 
-  past-adds : (y : Sent) (p : ℕ) → Through y → WritesPast y (slot_of s) p → (i : ℕ) →
+  past_adds : (y : Sent) (p : ℕ) → Through y → WritesPast y (slot_of s) p → (i : ℕ) →
       lists (leaves_in y (slot_of s)) i
       ≡ (lists (slot_of s) i || within (length (data_of (slot_of s).container)) p i)
   unfolding slot_of stretches_after stretches_by
-  past-adds y p t q i =
+  past_adds y p t q i =
       let u : SlotParts = rule_leaves_in y s in
       let e : u.stretches ≡ written_over n p (length q.bytes) s.stretches =
-      step_stretches y s t ∙ rw (took-past y p q) in
-      let g : n < p = omega (arith, q.past, size-slot) in
-      ap (λ (z : Slot). lists z i) (leaves-slot s v y)
-      ∙ ap (λ (rs : List Stretch). listed rs i) (stretches-back u (sound_left y s t v) ∙ e)
+      step_stretches y s t ∙ rw (took_past y p q) in
+      let g : n < p = omega (arith, q.past, size_slot) in
+      ap (λ (z : Slot). lists z i) (leaves_slot s v y)
+      ∙ ap (λ (rs : List Stretch). listed rs i) (stretches_back u (sound_left y s t v) ∙ e)
       ∙ listed_past n p (length q.bytes) s.stretches i v.rises g q.some_bytes
-      ∙ rw (size-slot, lists-slot i)
+      ∙ rw (size_slot, lists_slot i)
 
   took-cut : (x : Sent) (m : ℕ) (q : CutsIn x (slot_of s) m) →
       took_in x s ≡ write_changes (placed q.writes n) (cut_at m ∷ [])
   unfolding took_in took changes_of cut_change
-  took-cut x m q = rw (heard-done x q.done, q.asks)
+  took-cut x m q = rw (heard_done x q.done, q.asks)
 
   cut_short : (x : Sent) (m : ℕ) → CutsIn x (slot_of s) m → length (rule_leaves_in x s).parts.bytes ≤ m
   cut_short x m q = rw (step_size x s, took-cut x m q) (cut_last (placed q.writes n) m n)
@@ -105,14 +105,14 @@ quiet_size : (s : SlotParts) → Sound s → (h : List Sent) → WritesThrough h
     length (final rule_leaves_in h s).parts.bytes ≡ length s.parts.bytes
 unfolding perform_all
 quiet_size s v h w e =
-    let z : rule_changes h s ≡ [] = rw ((followed h s w v).heard, size-slot s v) at e in
+    let z : rule_changes h s ≡ [] = rw ((followed h s w v).heard, size_slot s v) at e in
     ap length (data_accepted h s) ∙ rw z
 
 quiet_stretches : (s : SlotParts) → Sound s → (h : List Sent) → WritesThrough h → Quiet h (slot_of s) →
     (final rule_leaves_in h s).stretches ≡ s.stretches
 unfolding stretches_after
 quiet_stretches s v h w e =
-    let z : rule_changes h s ≡ [] = rw ((followed h s w v).heard, size-slot s v) at e in
+    let z : rule_changes h s ≡ [] = rw ((followed h s w v).heard, size_slot s v) at e in
     stretches_accepted h s w ∙ rw z
 
 module _ (s : SlotParts) (v : Sound s) where
@@ -125,7 +125,7 @@ module _ (s : SlotParts) (v : Sound s) where
       let k = each_split (λ (x : Sent). Through x) h (y ∷ []) w in
       let f : Followed h s = followed h s k.0 v in
       ap (λ (z : Slot). lists z i) (final-append leaves_in h (y ∷ []) (slot_of s))
-      ∙ rw f.left (past-adds (final rule_leaves_in h s) f.sound y p k.1.0 (rw f.left at q) i)
+      ∙ rw f.left (past_adds (final rule_leaves_in h s) f.sound y p k.1.0 (rw f.left at q) i)
 
   -- the slot after a cut has at most m bytes
   short : (h : List Sent) (x : Sent) (m : ℕ) → WritesThrough (h ++ (x ∷ [])) → CutsIn x (after h (slot_of s)) m →
@@ -139,17 +139,17 @@ module _ (s : SlotParts) (v : Sound s) where
       rw (
         final-append leaves_in h (x ∷ []) (slot_of s),
         f.left,
-        leaves-slot t f.sound x,
-        size-slot (rule_leaves_in x t) u,
+        leaves_slot t f.sound x,
+        size_slot (rule_leaves_in x t) u,
       )
       (cut_short t f.sound x m (rw f.left at q))
 
   -- with nothing accepted between, size and list are the same
-  quiet-end : (h between : List Sent) → WritesThrough (h ++ between) → Quiet between (after h (slot_of s)) →
+  quiet_end : (h between : List Sent) → WritesThrough (h ++ between) → Quiet between (after h (slot_of s)) →
       (length (data_of (after (h ++ between) (slot_of s)).container) ≡ length (data_of (after h (slot_of s)).container))
       × (((i : ℕ) → length (data_of (after h (slot_of s)).container) ≤ i → lists (after h (slot_of s)) i ≡ false)
       × ((i : ℕ) → lists (after (h ++ between) (slot_of s)) i ≡ lists (after h (slot_of s)) i))
-  quiet-end h between w e =
+  quiet_end h between w e =
       let k = each_split (λ (x : Sent). Through x) h between w in
       let f : Followed h s = followed h s k.0 v in
       let t : SlotParts = final rule_leaves_in h s in
@@ -160,10 +160,10 @@ module _ (s : SlotParts) (v : Sound s) where
       let z : length u.parts.bytes ≡ length t.parts.bytes =
       quiet_size t f.sound between k.1 (rw f.left at e) in
       let m : u.stretches ≡ t.stretches = quiet_stretches t f.sound between k.1 (rw f.left at e) in (
-        rw (a, f.left, size-slot u g.sound, size-slot t f.sound) z,
+        rw (a, f.left, size_slot u g.sound, size_slot t f.sound) z,
         (
-          λ i h. rw f.left (none_behind t f.sound i (rw (f.left, size-slot t f.sound) at h)),
-          λ i. rw (a, f.left) (lists-slot u g.sound i ∙ ap (λ (rs : List Stretch). listed rs i) m ∙ sym (lists-slot t f.sound i)),
+          λ i h. rw f.left (none_behind t f.sound i (rw (f.left, size_slot t f.sound) at h)),
+          λ i. rw (a, f.left) (lists_slot u g.sound i ∙ ap (λ (rs : List Stretch). listed rs i) m ∙ sym (lists_slot t f.sound i)),
         ),
       )
 
@@ -176,7 +176,7 @@ module _ (s : SlotParts) (v : Sound s) where
       let a : List Sent = h ++ (x ∷ []) in
       let k = each_split (λ (x : Sent). Through x) (a ++ between) (y ∷ []) w in
       let l = each_split (λ (x : Sent). Through x) a between k.0 in
-      let z = quiet-end a between k.0 e in
+      let z = quiet_end a between k.0 e in
       record {
         short = short h x m l.0 c;
         none_behind = z.1.0;

@@ -132,17 +132,17 @@ few_others p q l d g h =
 
 -- ---- the stretches after a request, beside the data after it
 module _ (p : Parts) (r : Option Request) (rs : List Stretch) where
-  pub next-rises : Rising 0 rs (length p.bytes) → Rising 0 (next_stretches p r rs) (length (after_of p r).bytes)
+  pub next_rises : Rising 0 rs (length p.bytes) → Rising 0 (next_stretches p r rs) (length (after_of p r).bytes)
   unfolding next_stretches
-  next-rises h =
+  next_rises h =
       let os : List Change = changes_of r (length p.bytes) in
       let l : length (after_of p r).bytes ≡ size_after os (length p.bytes) =
       ap length (after-bytes p r) ∙ length-perform_all os p.bytes in
       rw l (rising-after os (length p.bytes) rs h)
 
-  pub next-zeros : Zeros rs p.bytes → Zeros (next_stretches p r rs) (after_of p r).bytes
+  pub next_zeros : Zeros rs p.bytes → Zeros (next_stretches p r rs) (after_of p r).bytes
   unfolding next_stretches
-  next-zeros h = rw (after-bytes p r) (zeros_after (changes_of r (length p.bytes)) rs p.bytes h)
+  next_zeros h = rw (after-bytes p r) (zeros_after (changes_of r (length p.bytes)) rs p.bytes h)
 
 next_good : (p : Parts) (r : Option Request) (l : List ℕ) → GoodList l p.bytes →
     Fits32 (length (after_of p r).bytes) → length (next_stretches p r (stretches_of l)) ≤ row_limit →
@@ -151,7 +151,7 @@ next_good p r l g f h =
     let rs : List Stretch = stretches_of l in
     good_list (list_bytes (next_stretches p r rs)) (after_of p r).bytes
     (bytes_good (next_stretches p r rs) (after_of p r).bytes
-    (record { few = h; rises = next-rises p r rs g.rises; fits = f }) (next-zeros p r rs g.zeros))
+    (record { few = h; rises = next_rises p r rs g.rises; fits = f }) (next_zeros p r rs g.zeros))
 
 -- A list stays good beside what a request leaves of the data.
 pub good_after : (p : Parts) (r : Option Request) (l : List ℕ) → GoodList l p.bytes →

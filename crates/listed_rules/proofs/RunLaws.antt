@@ -8,7 +8,7 @@ use native.Mathlib.Omega.{arith}
 use lib.ListN.{length}
 use borrow.Author.Tests.{ne_eqb}
 use Rattle.format.specs.Layout.{data_of}
-use Rattle.format.proofs.RoundTrip.{data-encode}
+use Rattle.format.proofs.RoundTrip.{data_encode}
 use Rattle.rules.specs.Changes.{Change, size_by, size_after}
 use Rattle.rules.specs.Outcomes.{outcome}
 use Rattle.rules.proofs.OutcomeLaws.{answered-number}
@@ -23,15 +23,15 @@ use Rattle.listed_rules.specs.Runs.{Slot, Sent, hears_in, leaves_in, WritesThrou
 use Rattle.listed_rules.specs.Runs.{rule_leaves_in}
 use Rattle.listed_rules.specs.Histories.{bad_list}
 use Rattle.rules.proofs.NumberLaws.{own_most}
-use Rattle.listed_rules.proofs.Demand1.{demand-1-beside}
+use Rattle.listed_rules.proofs.Demand1.{demand_1_beside}
 use Rattle.listed_rules.proofs.Steps.{took_in, step_data, step_stretches, step_size, Sound, sound_left, slot_of}
-use Rattle.listed_rules.proofs.Steps.{slot_ok, hears-slot, leaves-slot}
+use Rattle.listed_rules.proofs.Steps.{slot_ok, hears_slot, leaves_slot}
 
 -- ---- a sound slot has a good list, so that no call is answered 16
 pub slot_good : (s : SlotParts) → Sound s → GoodList (slot_of s).list (data_of (slot_of s).container)
 unfolding slot_of
 slot_good s v =
-    rw (data-encode s.parts v.valid) (good_list (list_bytes s.stretches) s.parts.bytes (slot_ok s v))
+    rw (data_encode s.parts v.valid) (good_list (list_bytes s.stretches) s.parts.bytes (slot_ok s v))
 
 not_bad : (x : Sent) (s : Slot) → GoodList s.list (data_of s.container) → bad_list (hears_in x s) ≡ false
 unfolding bad_list hears_in hears
@@ -48,7 +48,7 @@ not_bad x s g = go x.direct refl
         rw (d, answered-number)
         (ne_eqb own 16 (λ e. omega (arith, own_most c x.call.request (length x.call.space), e)))
     go false d =
-        rw d (ne_eqb _ 16 (λ e. ((demand-1-beside c s.list x.call.request x.call.space).sixteen.0 e).1 g))
+        rw d (ne_eqb _ 16 (λ e. ((demand_1_beside c s.list x.call.request x.call.space).sixteen.0 e).1 g))
 
 -- ---- container and list follow
 pub record Followed (h : List Sent) (s : SlotParts) : Type 0 where
@@ -64,9 +64,9 @@ followed (x ∷ h) s w v =
     let i : Followed h (rule_leaves_in x s) = followed h (rule_leaves_in x s) w.1 (sound_left x s w.0 v) in
     record {
       sound = i.sound;
-      heard = ap₂ ◌∷◌ (hears-slot s v x) (ap (answers hears_in leaves_in h) (leaves-slot s v x) ∙ i.heard);
-      left = ap (final leaves_in h) (leaves-slot s v x) ∙ i.left;
-      never_bad = (not_bad x (slot_of s) (slot_good s v), rw (leaves-slot s v x) i.never_bad);
+      heard = ap₂ ◌∷◌ (hears_slot s v x) (ap (answers hears_in leaves_in h) (leaves_slot s v x) ∙ i.heard);
+      left = ap (final leaves_in h) (leaves_slot s v x) ∙ i.left;
+      never_bad = (not_bad x (slot_of s) (slot_good s v), rw (leaves_slot s v x) i.never_bad);
     }
 
 -- ---- the accepted changes, carried out

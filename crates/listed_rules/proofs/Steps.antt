@@ -14,7 +14,7 @@ use Rattle.octets.proofs.RowLaws.{clear, rows_clear}
 use Rattle.format.specs.Container.{well_formed}
 use Rattle.format.specs.Parts.{Parts, encode}
 use Rattle.format.specs.Claims.{Valid}
-use Rattle.format.proofs.RoundTrip.{encode-formed, data-encode, parts-encode}
+use Rattle.format.proofs.RoundTrip.{encode_formed, data_encode, parts_encode}
 use Rattle.rules.specs.Requests.{Request, test_write, add, renew, cancel, read, kind_of, request_of}
 use Rattle.rules.specs.Changes.{Change, size_after, changes_of}
 use Rattle.rules.specs.Outcomes.{request_rows, after_of}
@@ -175,40 +175,40 @@ module _ (s : SlotParts) (v : Sound s) where
   storable : Storable s.stretches (length s.parts.bytes)
   storable = record { few = v.few; rises = v.rises; fits = bytes_fit s.parts v.valid }
 
-  pub stretches-back : stretches_of (list_bytes s.stretches) ≡ s.stretches
-  stretches-back = (list_round_trip [] [] s.stretches (length s.parts.bytes)).parts_back storable
+  pub stretches_back : stretches_of (list_bytes s.stretches) ≡ s.stretches
+  stretches_back = (list_round_trip [] [] s.stretches (length s.parts.bytes)).parts_back storable
 
   pub slot_ok : list_ok (list_bytes s.stretches) s.parts.bytes ≡ true
   slot_ok = bytes_good s.stretches s.parts.bytes storable v.zeros
 
-  outcome-slot : (x : Call) →
+  outcome_slot : (x : Call) →
       outcome_beside (encode s.parts) (list_bytes s.stretches) x.request (length x.space)
       ≡ rule_outcome_beside x s
   unfolding outcome_beside rule_outcome_beside first_row
-  outcome-slot x =
-      let w : well_formed (encode s.parts) ≡ true = encode-formed s.parts v.valid in
+  outcome_slot x =
+      let w : well_formed (encode s.parts) ≡ true = encode_formed s.parts v.valid in
       rw (
         formed_length (encode s.parts) w,
         w,
-        data-encode s.parts v.valid,
+        data_encode s.parts v.valid,
         slot_ok,
-        parts-encode s.parts v.valid,
-        stretches-back,
+        parts_encode s.parts v.valid,
+        stretches_back,
       )
 
-  pub hears-slot : (x : Sent) → hears_in x (slot_of s) ≡ rule_hears_in x s
+  pub hears_slot : (x : Sent) → hears_in x (slot_of s) ≡ rule_hears_in x s
   unfolding hears_in rule_hears_in slot_of answered_beside reply_beside
-  hears-slot x =
-      rw (follows.answer x.call s.parts v.valid, outcome-slot x.call, parts-encode s.parts v.valid)
+  hears_slot x =
+      rw (follows.answer x.call s.parts v.valid, outcome_slot x.call, parts_encode s.parts v.valid)
 
-  pub leaves-slot : (x : Sent) → leaves_in x (slot_of s) ≡ slot_of (rule_leaves_in x s)
+  pub leaves_slot : (x : Sent) → leaves_in x (slot_of s) ≡ slot_of (rule_leaves_in x s)
   unfolding leaves_in rule_leaves_in slot_of container_beside list_after
-  leaves-slot x =
+  leaves_slot x =
       rw (
         follows.after x.call s.parts v.valid,
-        outcome-slot x.call,
-        parts-encode s.parts v.valid,
-        list_next s.parts (request_of x.call.request) s.stretches stretches-back,
+        outcome_slot x.call,
+        parts_encode s.parts v.valid,
+        list_next s.parts (request_of x.call.request) s.stretches stretches_back,
       )
       (go x.direct (eqb (rule_outcome_beside x.call s) 0))
     where

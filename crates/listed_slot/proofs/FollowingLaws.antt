@@ -16,8 +16,8 @@ use Rattle.requests.specs.Forms.{cut_in}
 use Rattle.requests.specs.declared.cursors.Entry.{Entry}
 use Rattle.requests.specs.declared.forms.Cut.{Cut}
 use Rattle.requests.specs.declared.offsets.Resolved.{Resolved}
-use Rattle.writes.proofs.TableLaws.{Rest, Taken, most_on_the_way, body-length, entry-rest, entry-small, left, onward}
-use Rattle.writes.proofs.TableLaws.{entry-placed}
+use Rattle.writes.proofs.TableLaws.{Rest, Taken, most_on_the_way, body_length, entry_rest, entry_small, left, onward}
+use Rattle.writes.proofs.TableLaws.{entry_placed}
 use Rattle.stretches.specs.Stretches.{Stretch, below, written_over, stretches_by, stretches_after}
 use Rattle.stretches.specs.List.{row_limit, rows_at, row_count, rows_from, stretches_of}
 use Rattle.stretches.specs.Claims.{Storable}
@@ -28,13 +28,13 @@ use Rattle.listed_slot.specs.Following.{followed_by}
 
 -- ---- one write
 module _ {q : List ℕ} {v p b size : ℕ} {e : Entry} {r : Resolved} (K : Taken q v p b size e r) where
-  entry-rows : (rs : List Stretch) → followed_by (writes_from v p b q) none size rs
+  entry_rows : (rs : List Stretch) → followed_by (writes_from v p b q) none size rs
       ≡ followed_by (left K) none (onward K) (written_over size r.position e.count rs)
   unfolding write_changes stretches_after stretches_by size_by
-  entry-rows rs =
+  entry_rows rs =
       let at : ℕ = r.position in
-      let n : length (take e.count (drop b q)) ≡ e.count = rw K.entry (body-length K) in
-      rw (entry-placed K)
+      let n : length (take e.count (drop b q)) ≡ e.count = rw K.entry (body_length K) in
+      rw (entry_placed K)
       (ap (λ (m : ℕ). stretches_after (write_changes (placed (left K) (onward K)) (cut_change none)) (grow size at m)
       (written_over size at m rs)) n)
 
@@ -57,13 +57,13 @@ following_start {b = b} R f g h =
 
 module _ {q : List ℕ} {ws : List Write} {size : ℕ} {rs : List Stretch} {v at : ℕ} {t : List ℕ} {n after : ℕ}
     (F : Following q ws size rs v at t n after) where
-  pub following-next : {e : Entry} {r : Resolved} → Taken q v at F.body after e r → length q ≤ request_limit →
+  pub following_next : {e : Entry} {r : Resolved} → Taken q v at F.body after e r → length q ≤ request_limit →
       size ≤ limit → (x : List ℕ) (m next : ℕ) →
       Holds x m (written_over after r.position e.count (rows_from n 0 t)) →
       next ≡ grow after r.position e.count → Following q ws size rs (v - 1) e.next.at x m next
-  following-next {e} {r} K l s x m next h g =
-      let R : Rest q (v - 1) e.next.at (F.body + e.count) = entry-rest K in
-      let small : next ≤ most_on_the_way size (F.body + e.count) = rw g (entry-small K size F.small) in
+  following_next {e} {r} K l s x m next h g =
+      let R : Rest q (v - 1) e.next.at (F.body + e.count) = entry_rest K in
+      let small : next ≤ most_on_the_way size (F.body + e.count) = rw g (entry_small K size F.small) in
       let few : m ≤ suc n =
       omega (
         arith,
@@ -83,12 +83,12 @@ module _ {q : List ℕ} {ws : List Write} {size : ℕ} {rs : List Stretch} {v at
           rises = rw (h.rows, g) (rising_written after r.position e.count (rows_from n 0 t) F.ready.rises);
         };
         room = omega (arith, F.room, K.some, few);
-        rows = rw (h.rows, g) (sym (entry-rows K (rows_from n 0 t)) ∙ F.rows);
+        rows = rw (h.rows, g) (sym (entry_rows K (rows_from n 0 t)) ∙ F.rows);
       }
 
-  pub following-end : v ≤ 0 → rows_from n 0 t ≡ followed_by ws none size rs
+  pub following_end : v ≤ 0 → rows_from n 0 t ≡ followed_by ws none size rs
   unfolding writes_from placed write_changes cut_change stretches_after
-  following-end h = let z : v ≡ 0 = omega arith in rw z at F.rows
+  following_end h = let z : v ≡ 0 = omega arith in rw z at F.rows
 
 -- ---- then the cut
 after-cut : (ws : List Placed) (m n : ℕ) (rs : List Stretch) →
@@ -114,23 +114,23 @@ module _ (ws : List Write) (cut : Cut) (size : ℕ) (rs : List Stretch) (t : Lis
 
 -- ---- the list taken into the table, and how many rows it would have
 module _ (l : List ℕ) {size : ℕ} (S : Storable (stretches_of l) size) where
-  pub few-listed : row_count l ≤ row_limit
+  pub few_listed : row_count l ≤ row_limit
   unfolding stretches_of
-  few-listed = omega (arith, length-rows_from (row_count l) rows_at l, S.few)
+  few_listed = omega (arith, length-rows_from (row_count l) rows_at l, S.few)
 
   pub loaded : {t : List ℕ} {n : ℕ} → n ≡ row_count l → rows_from n 0 t ≡ stretches_of l → length t ≡ table_size →
       Ready t n size × (n ≤ row_limit)
   loaded e r k = (
-    record { long = k; few = omega (arith, few-listed); fits = S.fits; rises = rw r S.rises },
-    omega (arith, few-listed),
+    record { long = k; few = omega (arith, few_listed); fits = S.fits; rises = rw r S.rises },
+    omega (arith, few_listed),
   )
 
 module _ {t : List ℕ} {n : ℕ} {rs : List Stretch} (H : Holds t n rs) where
   pub held-length : length rs ≡ n
   held-length = ap length (sym H.rows) ∙ length-rows_from n 0 t
 
-  pub held-few : n ≤ row_limit → true ≡ leb (length rs) row_limit
-  held-few h = sym (le-leb (length rs) row_limit (omega (arith, held-length)))
+  pub held_few : n ≤ row_limit → true ≡ leb (length rs) row_limit
+  held_few h = sym (le-leb (length rs) row_limit (omega (arith, held-length)))
 
   pub held-many : row_limit < n → false ≡ leb (length rs) row_limit
   held-many h = sym (lt-leb (length rs) row_limit (omega (arith, held-length)))

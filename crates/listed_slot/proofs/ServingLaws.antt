@@ -16,7 +16,7 @@ use Rattle.format.specs.Judging.{Known}
 use Rattle.format.specs.Layout.{data_of, limit}
 use Rattle.format.specs.Parts.{Parts, parts_of}
 use Rattle.format.specs.declared.layout.Frame.{Frame}
-use Rattle.format.proofs.KnownLaws.{data-framed, known-room}
+use Rattle.format.proofs.KnownLaws.{data_framed, known_room}
 use Rattle.rules.specs.Requests.{Request, test_write, add, renew, cancel, read, request_of, by_kind, kind_of}
 use Rattle.rules.specs.Changes.{changes_of}
 use Rattle.rules.specs.Outcomes.{replies, answer_of, no_node, outcome, answered, container_after, reply_after}
@@ -37,7 +37,7 @@ use Rattle.stretches.proofs.ByteLaws.{length-rows_from, list_facts}
 use Rattle.stretches.proofs.Claims.{list_round_trip}
 use Rattle.listed_rules.specs.Outcomes.{next_stretches, outcome_beside, list_to, answered_beside, container_beside}
 use Rattle.listed_rules.specs.Outcomes.{list_after, reply_beside}
-use Rattle.listed_rules.proofs.BesideLaws.{beside_by, beside-malformed, beside-formed, own-by, list-kept, list-moved}
+use Rattle.listed_rules.proofs.BesideLaws.{beside_by, beside-malformed, beside_formed, own_by, list_kept, list_moved}
 use Rattle.listed_slot.specs.Following.{followed_by}
 
 -- ---- requests that leave the list
@@ -115,51 +115,51 @@ malformed-length c e = rw e
 
 module _ (c l q r : List ℕ) where
   -- With the container's own number all but the list is the container's.
-  own-served : {x : Answer} {d m s : List ℕ} → outcome_beside c l q (length r) ≡ outcome c q (length r) →
+  own_served : {x : Answer} {d m s : List ℕ} → outcome_beside c l q (length r) ≡ outcome c q (length r) →
       x ≡ answered c q r → d ≡ container_after c q r → m ≡ list_after c l q r → s ≡ reply_after c q r →
       Served c l q r x d m s
-  own-served o a e i j =
-      let w = own-by c l q r o in
+  own_served o a e i j =
+      let w = own_by c l q r o in
       (a ∙ sym w.answer, (e ∙ sym w.container, (i, j ∙ sym w.reply)))
 
   -- A number of the list's own changes nothing.
-  silent-served : {x : Answer} (n : ℕ) → Silent n → outcome_beside c l q (length r) ≡ n → x ≡ answer_of n no_node 0 →
+  silent_served : {x : Answer} (n : ℕ) → Silent n → outcome_beside c l q (length r) ≡ n → x ≡ answer_of n no_node 0 →
       Served c l q r x c l r
   unfolding answered_beside container_beside list_after reply_beside
-  silent-served n s o a = (
+  silent_served n s o a = (
     a ∙ rw o (silent-answer n (parts_of c) (request_of q) s),
     (rw (o, s.not_done), (rw (o, s.not_done), rw (o, s.no_reply))),
   )
 
   -- A container that is not well formed refuses before the list is looked at.
-  pub malformed-served : {x : Answer} (n : ℕ) → 0 < n → well_formed c ≡ false → Refused n c q r →
+  pub malformed_served : {x : Answer} (n : ℕ) → 0 < n → well_formed c ≡ false → Refused n c q r →
       x ≡ answer_of n no_node 0 → Served c l q r x c l r
-  malformed-served n h w f a =
+  malformed_served n h w f a =
       let o : outcome_beside c l q (length r) ≡ outcome c q (length r) = beside-malformed c l q (length r) w in
       let k : outcome c q (length r) ≡ n =
       sym (answered-number c q r) ∙ sym (ap (λ (y : Answer). y.number) f.answer) in
       let z : outcome_beside c l q (length r) ≡ 0 → ⊥ = λ e. omega (arith, o, k, e) in
-      own-served o (a ∙ f.answer) f.container (sym (list-kept c l q r z)) f.reply
+      own_served o (a ∙ f.answer) f.container (sym (list_kept c l q r z)) f.reply
 
   module _ (w : well_formed c ≡ true) where
     -- 16
-    pub bad-list : {x : Answer} → list_ok l (data_of c) ≡ false → x ≡ answer_of 16 no_node 0 → Served c l q r x c l r
+    pub bad_list_lem : {x : Answer} → list_ok l (data_of c) ≡ false → x ≡ answer_of 16 no_node 0 → Served c l q r x c l r
     unfolding beside_by
-    bad-list k a = silent-served 16 silent16 (beside-formed c l q (length r) w ∙ rw k) a
+    bad_list_lem k a = silent_served 16 silent16 (beside_formed c l q (length r) w ∙ rw k) a
 
     module _ (k : list_ok l (data_of c) ≡ true) where
-      few-rows : length (stretches_of l) ≤ row_limit
+      few_rows : length (stretches_of l) ≤ row_limit
       unfolding stretches_of
-      few-rows = omega (arith, length-rows_from (row_count l) rows_at l, (list_facts l (data_of c) k).few)
+      few_rows = omega (arith, length-rows_from (row_count l) rows_at l, (list_facts l (data_of c) k).few)
 
       abbrev next : List Stretch
       next = next_stretches (parts_of c) (request_of q) (stretches_of l)
 
       -- Where no more than 256 rows would result, and where the container's own rows refuse, the number is its own.
-      few-own : length next ≤ row_limit → outcome_beside c l q (length r) ≡ outcome c q (length r)
+      few_own : length next ≤ row_limit → outcome_beside c l q (length r) ≡ outcome c q (length r)
       unfolding beside_by
-      few-own h =
-          beside-formed c l q (length r) w ∙ rw (k, le-ltb row_limit (length next) h)
+      few_own h =
+          beside_formed c l q (length r) w ∙ rw (k, le-ltb row_limit (length next) h)
           (go (eqb (outcome c q (length r)) 0) refl)
         where
           go : (b : Bool) → eqb (outcome c q (length r)) 0 ≡ b →
@@ -168,12 +168,12 @@ module _ (c l q r : List ℕ) where
           go false e = refl
 
       -- A request that leaves the list.
-      pub still-served : {x : Answer} {d s : List ℕ} → Still (request_of q) → x ≡ answered c q r →
+      pub still_served : {x : Answer} {d s : List ℕ} → Still (request_of q) → x ≡ answered c q r →
           d ≡ container_after c q r → s ≡ reply_after c q r → Served c l q r x d l s
       unfolding list_after
-      still-served h a e j =
+      still_served h a e j =
           let n : next ≡ stretches_of l = still_next (parts_of c) (request_of q) (stretches_of l) h in
-          own-served (few-own (omega (arith, ap length n, few-rows))) a e
+          own_served (few_own (omega (arith, ap length n, few_rows))) a e
           (rw (still_list (parts_of c) (request_of q) l h) (go (eqb (outcome_beside c l q (length r)) 0))) j
         where
           go : (b : Bool) → l ≡ cond b l l
@@ -181,29 +181,29 @@ module _ (c l q r : List ℕ) where
           go false = refl
 
       -- A request that the container refuses.
-      pub refused-served : {x : Answer} {d s : List ℕ} → (outcome c q (length r) ≡ 0 → ⊥) → x ≡ answered c q r →
+      pub refused_served : {x : Answer} {d s : List ℕ} → (outcome c q (length r) ≡ 0 → ⊥) → x ≡ answered c q r →
           d ≡ container_after c q r → s ≡ reply_after c q r → Served c l q r x d l s
       unfolding beside_by
-      refused-served z a e j =
+      refused_served z a e j =
           let o : outcome_beside c l q (length r) ≡ outcome c q (length r) =
-          beside-formed c l q (length r) w ∙ rw (k, ne_eqb (outcome c q (length r)) 0 z) in
-          own-served o a e (sym (list-kept c l q r (λ y. z (sym o ∙ y)))) j
+          beside_formed c l q (length r) w ∙ rw (k, ne_eqb (outcome c q (length r)) 0 z) in
+          own_served o a e (sym (list_kept c l q r (λ y. z (sym o ∙ y)))) j
 
       -- 13
-      many-served : {x : Answer} → outcome c q (length r) ≡ 0 → row_limit < length next → x ≡ answer_of 13 no_node 0 →
+      many_served : {x : Answer} → outcome c q (length r) ≡ 0 → row_limit < length next → x ≡ answer_of 13 no_node 0 →
           Served c l q r x c l r
       unfolding beside_by
-      many-served z h a =
-          silent-served 13 silent13
-          (beside-formed c l q (length r) w ∙ rw (k, z, lt-ltb row_limit (length next) h)) a
+      many_served z h a =
+          silent_served 13 silent13
+          (beside_formed c l q (length r) w ∙ rw (k, z, lt-ltb row_limit (length next) h)) a
 
       -- Done: the list moves too.
-      done-served : {x : Answer} {d m s : List ℕ} → outcome c q (length r) ≡ 0 → length next ≤ row_limit →
+      done_served : {x : Answer} {d m s : List ℕ} → outcome c q (length r) ≡ 0 → length next ≤ row_limit →
           x ≡ answered c q r → d ≡ container_after c q r → m ≡ list_to (parts_of c) (request_of q) l →
           s ≡ reply_after c q r → Served c l q r x d m s
-      done-served z h a e i j =
-          let o : outcome_beside c l q (length r) ≡ outcome c q (length r) = few-own h in
-          own-served o a e (i ∙ sym (list-moved c l q r (o ∙ z))) j
+      done_served z h a e i j =
+          let o : outcome_beside c l q (length r) ≡ outcome c q (length r) = few_own h in
+          own_served o a e (i ∙ sym (list_moved c l q r (o ∙ z))) j
 
 -- ---- a test-and-write beside a good list
 module _ {c : List ℕ} (l : List ℕ) {q : List ℕ} {f : Frame} {t : Parted} (K : Known c f) (W : WriteRequest q t)
@@ -212,26 +212,26 @@ module _ {c : List ℕ} (l : List ℕ) {q : List ℕ} {f : Frame} {t : Parted} (
   abbrev made : List Stretch
   made = followed_by (writes_in t q) (cut_in t.cut) f.size (stretches_of l)
 
-  made-is : next_stretches (parts_of c) (request_of q) (stretches_of l) ≡ made
+  made_is : next_stretches (parts_of c) (request_of q) (stretches_of l) ≡ made
   unfolding next_stretches changes_of parts_of
-  made-is = rw (W.is, data-framed K)
+  made_is = rw (W.is, data_framed K)
 
-  list-is : list_to (parts_of c) (request_of q) l ≡ list_bytes made
+  list_is : list_to (parts_of c) (request_of q) l ≡ list_bytes made
   unfolding list_to
-  list-is = rw W.is (ap list_bytes (rw W.is at made-is))
+  list_is = rw W.is (ap list_bytes (rw W.is at made_is))
 
   -- What writing the list asks for.
-  pub list-storable : PartedIn q t
+  pub list_storable : PartedIn q t
       × ((f.size ≤ limit) × ((length l ≡ list_length) × Storable (stretches_of l) f.size))
-  list-storable =
-      let b : f.size ≤ limit = omega (arith, known-room K) in
-      let d : Fits32 (length (data_of c)) = rw (data-framed K) (omega arith) in (
+  list_storable =
+      let b : f.size ≤ limit = omega (arith, known_room K) in
+      let d : Fits32 (length (data_of c)) = rw (data_framed K) (omega arith) in (
         W.parted,
         (
           b,
           (
             (list_facts l (data_of c) G).long,
-            rw (data-framed K) at ((list_round_trip l (data_of c) [] 0).parts_hold G d),
+            rw (data_framed K) at ((list_round_trip l (data_of c) [] 0).parts_hold G d),
           ),
         ),
       )
@@ -243,10 +243,10 @@ module _ {c : List ℕ} (l : List ℕ) {q : List ℕ} {f : Frame} {t : Parted} (
         Served c l q r x c m r
     many-refused {m} e i a =
         let k : m ≡ l = i ∙ rw e in
-        rw k (many-served c l q r K.formed G z (rw made-is (leb-false (length made) row_limit (sym B ∙ e))) a)
+        rw k (many_served c l q r K.formed G z (rw made_is (leb-false (length made) row_limit (sym B ∙ e))) a)
 
     pub list_written : {d m s : List ℕ} → b ≡ true → m ≡ cond b (list_bytes made) l → x ≡ answered c q r →
         d ≡ container_after c q r → s ≡ reply_after c q r → Served c l q r x d m s
     list_written e i a p j =
-        done-served c l q r K.formed G z (rw made-is (leb-true (length made) row_limit (sym B ∙ e))) a p
-        (i ∙ rw e (sym list-is)) j
+        done_served c l q r K.formed G z (rw made_is (leb-true (length made) row_limit (sym B ∙ e))) a p
+        (i ∙ rw e (sym list_is)) j

@@ -36,10 +36,10 @@ joined_apart n e low (s ∷ rs) r h t =
     (ap (λ (l : List Stretch). s ∷ l) (joined_apart n e (suc (end_of s)) rs r h.1 t))
 
 module _ (t : List ℕ) (n size at : ℕ) (d : Ready t n size) (g : size < at) where
-  pub gap-alone : n ≡ 0 → (u : List ℕ) (k : ℕ) → Pushed t n (record { from = size; to = at }) u k
+  pub gap_alone : n ≡ 0 → (u : List ℕ) (k : ℕ) → Pushed t n (record { from = size; to = at }) u k
       → Holds u k (joined size at (rows_from n 0 t))
   unfolding joined rows_from
-  gap-alone z u k p = record { long = p.long ∙ d.long; rows = p.rows ∙ rw (z, between-some size at g) }
+  gap_alone z u k p = record { long = p.long ∙ d.long; rows = p.rows ∙ rw (z, between-some size at g) }
 
   module _ (i : ℕ) (last : Span) (e : suc i ≡ n) (is : last ≡ span_at (8 * i) t) where
     r : Stretch
@@ -60,9 +60,9 @@ module _ (t : List ℕ) (n size at : ℕ) (d : Ready t n size) (g : size < at) w
     unfolding r
     to_is = ap (λ (s : Span). s.to) is
 
-    pub gap-touch : last.to ≡ size → (u : List ℕ) (k : ℕ) → Pushed t i (record { from = last.from; to = at }) u k
+    pub gap_touch : last.to ≡ size → (u : List ℕ) (k : ℕ) → Pushed t i (record { from = last.from; to = at }) u k
         → Holds u k (joined size at (rows_from n 0 t))
-    gap-touch h u k p =
+    gap_touch h u k p =
         let q : last.from < at = omega (arith, from_is, to_is) in
         record {
           long = p.long ∙ d.long;
@@ -71,9 +71,9 @@ module _ (t : List ℕ) (n size at : ℕ) (d : Ready t n size) (g : size < at) w
               (sym (joined-touch size at 0 (rows_from i 0 t) r rises (sym to_is ∙ h)));
         }
 
-    pub gap-apart : (last.to ≡ size → ⊥) → (u : List ℕ) (k : ℕ) → Pushed t n (record { from = size; to = at }) u k
+    pub gap_apart : (last.to ≡ size → ⊥) → (u : List ℕ) (k : ℕ) → Pushed t n (record { from = size; to = at }) u k
         → Holds u k (joined size at (rows_from n 0 t))
-    gap-apart h u k p = record {
+    gap_apart h u k p = record {
       long = p.long ∙ d.long;
       rows =
           p.rows ∙ rw (between-some size at g, split)

@@ -22,26 +22,26 @@ use Rattle.lists.specs.Tables.{span_at, span_ok}
 
 -- ---- a row judged
 module _ (low : ℕ) (s : Span) (d : List ℕ) where
-  pub span-low : s.from < low → span_ok low s d ≡ false
+  pub span_low : s.from < low → span_ok low s d ≡ false
   unfolding span_ok
-  span-low h = rw (lt-leb low s.from h)
+  span_low h = rw (lt-leb low s.from h)
 
-  pub span-empty : low ≤ s.from → s.to ≤ s.from → span_ok low s d ≡ false
+  pub span_empty : low ≤ s.from → s.to ≤ s.from → span_ok low s d ≡ false
   unfolding span_ok
-  span-empty h g = rw (le-leb low s.from h, le-ltb s.from s.to g)
+  span_empty h g = rw (le-leb low s.from h, le-ltb s.from s.to g)
 
-  pub span-out : low ≤ s.from → s.from < s.to → length d < s.to → span_ok low s d ≡ false
+  pub span_out : low ≤ s.from → s.from < s.to → length d < s.to → span_ok low s d ≡ false
   unfolding span_ok
-  span-out h g k = rw (le-leb low s.from h, lt-ltb s.from s.to g, lt-leb s.to (length d) k)
+  span_out h g k = rw (le-leb low s.from h, lt-ltb s.from s.to g, lt-leb s.to (length d) k)
 
   pub span_rest : low ≤ s.from → s.from < s.to → s.to ≤ length d →
       span_ok low s d ≡ all_zero (take (s.to - s.from) (drop s.from d))
   unfolding span_ok
   span_rest h g k = rw (le-leb low s.from h, lt-ltb s.from s.to g, le-leb s.to (length d) k)
 
-  pub span-inside : span_ok low s d ≡ true → s.to ≤ length d
+  pub span_inside : span_ok low s d ≡ true → s.to ≤ length d
   unfolding span_ok
-  span-inside e =
+  span_inside e =
       let f = both (leb low s.from) _ e in
       let g = both (ltb s.from s.to) _ f.1 in
       leb-true s.to (length d) (both (leb s.to (length d)) _ g.1).0
@@ -88,8 +88,8 @@ module _ (t d : List ℕ) (n low i : ℕ) (s : Span) (whole : Bool) (h : i < n) 
       let u : s.to + 1 ≡ suc s.to = omega arith in
       inv ∙ rw (e, p, u, row) (good_next low (n - (i + 1)) (row_size * i) t d)
 
-  pub good-fails : span_ok low s d ≡ false → false ≡ whole
-  good-fails e = sym (turn ∙ rw e)
+  pub good_fails : span_ok low s d ≡ false → false ≡ whole
+  good_fails e = sym (turn ∙ rw e)
 
   pub good_turn : span_ok low s d ≡ true →
       whole ≡ rows_good (s.to + 1) (rows_from (n - (i + 1)) (row_size * (i + 1)) t) d
@@ -126,23 +126,23 @@ rows_by (suc n) p q s t e =
 
 -- ---- a list judged
 module _ (l d : List ℕ) where
-  pub ok-length : (length l ≡ list_length → ⊥) → false ≡ list_ok l d
+  pub ok_length : (length l ≡ list_length → ⊥) → false ≡ list_ok l d
   unfolding list_ok
-  ok-length h = rw (ne_eqb (length l) list_length h)
+  ok_length h = rw (ne_eqb (length l) list_length h)
 
   module _ (long : length l ≡ list_length) (n : ℕ) (count : n ≡ number_at 4 0 l) where
-    pub ok-count : row_limit < n → false ≡ list_ok l d
+    pub ok_count : row_limit < n → false ≡ list_ok l d
     unfolding list_ok row_count
-    ok-count g = rw (eq-eqb (length l) list_length long, lt-leb (number_at 4 0 l) row_limit (omega arith))
+    ok_count g = rw (eq-eqb (length l) list_length long, lt-leb (number_at 4 0 l) row_limit (omega arith))
 
     module _ (few : n ≤ row_limit) (z : Bool)
         (rest : z ≡ all_zero (take (length l - (rows_at + row_size * n)) (drop (rows_at + row_size * n) l))) where
       zeros : all_zero (drop (rows_at + row_size * number_at 4 0 l) l) ≡ z
       zeros = rw (← count) (sym (rest ∙ ap all_zero (tail_is l (rows_at + row_size * n))))
 
-      pub ok-rest : z ≡ false → false ≡ list_ok l d
+      pub ok_rest : z ≡ false → false ≡ list_ok l d
       unfolding list_ok row_count
-      ok-rest f = rw (eq-eqb (length l) list_length long, le-leb (number_at 4 0 l) row_limit (omega arith), zeros, f)
+      ok_rest f = rw (eq-eqb (length l) list_length long, le-leb (number_at 4 0 l) row_limit (omega arith), zeros, f)
 
       pub ok_rows : (k : ℕ) → k ≡ row_size * n → z ≡ true →
           rows_good 0 (rows_from n 0 (take k (drop rows_at l))) d ≡ list_ok l d

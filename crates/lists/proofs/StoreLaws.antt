@@ -48,9 +48,9 @@ module _ (n k : ℕ) (l t a b c : List ℕ) (long : length l ≡ list_length) (f
     (room : row_size * n ≤ length t) (o : Octets t)
     (is-a : a ≡ put 0 (digits 4 n) l) (part : k ≡ row_size * n) (is_b : b ≡ put rows_at (take k t) a)
     (is_c : c ≡ put (rows_at + row_size * n) (replicate (list_length - (rows_at + row_size * n)) 0) b) where
-  pub store-list : c ≡ list_bytes (rows_from n 0 t)
+  pub store_list : c ≡ list_bytes (rows_from n 0 t)
   unfolding list_bytes
-  store-list =
+  store_list =
       let used : ℕ = row_size * n in
       let x : List ℕ = digits 4 n in
       let y : List ℕ = take used t in

@@ -144,16 +144,16 @@ module _ (t₀ : List ℕ) (n a e : ℕ) (t : List ℕ) (i count : ℕ) (held ro
       (chosen-within (record { from = row.from; to = l }) held w.size k w.inside)
 
   -- what `push` asks
-  pub turn-asks : (8 * count + 8 ≤ length t) × (Fits32 count × Fits32 v.to)
-  turn-asks =
+  pub turn_asks : (8 * count + 8 ≤ length t) × (Fits32 count × Fits32 v.to)
+  turn_asks =
       (omega (arith, w.long, w.behind), (omega (arith, w.behind), omega (arith, turn_inside, w.fits)))
 
-  pub taking-turn : (m : ℕ) → m ≡ max e row.from → (u : List ℕ) (k : ℕ)
+  pub taking_turn : (m : ℕ) → m ≡ max e row.from → (u : List ℕ) (k : ℕ)
       → (k ≡ pushed_count count v) × (u ≡ pushed (8 * count) v t)
       → Taking t₀ n a e u (i + 1) k (record { from = m; to = row.to })
   unfolding outside rest
-  taking-turn m em u k d =
-      let p : Pushed t count v u k = push_is t count v u k turn-asks.0 turn-asks.1.1 d in
+  taking_turn m em u k d =
+      let p : Pushed t count v u k = push_is t count v u k turn_asks.0 turn_asks.1.1 d in
       let f : InPlace w.low r w.size = placed.0 in
       let same : rows_from (n - (i + 1)) (8 * (i + 1)) u ≡ rest =
       p.rest (n - (i + 1)) (8 * (i + 1)) (omega (arith, w.behind)) in

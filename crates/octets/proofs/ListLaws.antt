@@ -56,10 +56,10 @@ module _ {A : Type 0} (P : A → Type 0) where
   each_take (suc n) [] h = h
   each_take (suc n) (x ∷ ls) h = (h.0, each_take n ls h.1)
 
-  pub each-drop : (n : ℕ) (ls : List A) → Each P ls → Each P (drop n ls)
-  each-drop zero ls h = h
-  each-drop (suc n) [] h = h
-  each-drop (suc n) (x ∷ ls) h = each-drop n ls h.1
+  pub each_drop : (n : ℕ) (ls : List A) → Each P ls → Each P (drop n ls)
+  each_drop zero ls h = h
+  each_drop (suc n) [] h = h
+  each_drop (suc n) (x ∷ ls) h = each_drop n ls h.1
 
   pub each_set : (ls : List A) (i : ℕ) (r : A) → Each P ls → P r → Each P (set ls i r)
   each_set [] i r h k = tt
@@ -76,15 +76,15 @@ each_map P Q f [] e = tt
 each_map P Q f (x ∷ xs) e = (f x e.0, each_map P Q f xs e.1)
 
 module _ {A : Type 0} (test : A → Bool) where
-  pub every-each : (xs : List A) → every test xs ≡ true → Each (λ x. test x ≡ true) xs
+  pub every_each : (xs : List A) → every test xs ≡ true → Each (λ x. test x ≡ true) xs
   unfolding every
-  every-each [] e = tt
-  every-each (x ∷ xs) e = let b = both (test x) (every test xs) e in (b.0, every-each xs b.1)
+  every_each [] e = tt
+  every_each (x ∷ xs) e = let b = both (test x) (every test xs) e in (b.0, every_each xs b.1)
 
-  pub each-every : (xs : List A) → Each (λ x. test x ≡ true) xs → every test xs ≡ true
+  pub each_every : (xs : List A) → Each (λ x. test x ≡ true) xs → every test xs ≡ true
   unfolding every
-  each-every [] e = refl
-  each-every (x ∷ xs) e = rw e.0 (each-every xs e.1)
+  each_every [] e = refl
+  each_every (x ∷ xs) e = rw e.0 (each_every xs e.1)
 
   pub every_append : (a b : List A) → every test (a ++ b) ≡ (every test a && every test b)
   unfolding every

@@ -42,30 +42,30 @@ module _ {c q d : List ℕ} {f : Frame} {t : Table} {m : Measured} (A : Asked c 
   pieces_are : pieces_in t q d ≡ map (read_piece (data_of c)) (reads_from t.count t.first.at q)
   pieces_are = rw (A.bytes, A.request.stride) (sym (read_pieces t.count t.first.at q (data_of c)))
 
-  resolves-is : m.resolves ≡ all_resolve c (reads_from t.count t.first.at q)
-  resolves-is =
+  resolves_is : m.resolves ≡ all_resolve c (reads_from t.count t.first.at q)
+  resolves_is =
       ap (λ (y : Measured). y.resolves) A.measured
       ∙ rw (A.bytes, A.request.stride) (sym (read-resolve t.count t.first.at q (length (data_of c))))
 
-  length-is : m.length ≡ reply_size c (reads_from t.count t.first.at q)
-  length-is = ap (λ (y : Measured). y.length) A.measured ∙ rw pieces_are
+  length_is : m.length ≡ reply_size c (reads_from t.count t.first.at q)
+  length_is = ap (λ (y : Measured). y.length) A.measured ∙ rw pieces_are
 
   -- rows 4 and 7
   asked-outcome : (k : ℕ) → outcome c q k ≡ first_row (row 4 (not m.resolves) ∷ row 7 (ltb k m.length) ∷ [])
-  asked-outcome k = read-outcome c q k _ A.known.formed A.request.is ∙ rw (resolves-is, length-is)
+  asked-outcome k = read-outcome c q k _ A.known.formed A.request.is ∙ rw (resolves_is, length_is)
 
   module _ (r : List ℕ) (x : Answer) where
-    pub read-unresolved : m.resolves ≡ false → x ≡ answer_of 4 no_node 0 → (x ≡ answered c q r) × (r ≡ reply_after c q r)
+    pub read_unresolved : m.resolves ≡ false → x ≡ answer_of 4 no_node 0 → (x ≡ answered c q r) × (r ≡ reply_after c q r)
     unfolding first_row replies
-    read-unresolved h a =
+    read_unresolved h a =
         refused c q r x 4 (asked-outcome (length r)
         ∙ rw h) (record { not_done = refl; no_node_holds = refl; no_reply = refl }) a
 
     -- past the test of row 4
     module _ (h : m.resolves ≡ true) where
-      pub read-no-space : length r < m.length → x ≡ answer_of 7 no_node 0 → (x ≡ answered c q r) × (r ≡ reply_after c q r)
+      pub read_no_space : length r < m.length → x ≡ answer_of 7 no_node 0 → (x ≡ answered c q r) × (r ≡ reply_after c q r)
       unfolding first_row replies
-      read-no-space l a =
+      read_no_space l a =
           refused c q r x 7 (asked-outcome (length r) ∙ rw (h, lt-ltb _ _ l))
           (record { not_done = refl; no_node_holds = refl; no_reply = refl }) a
 
@@ -74,7 +74,7 @@ module _ {c q d : List ℕ} {f : Frame} {t : Table} {m : Measured} (A : Asked c 
       unfolding first_row replies answered reply_after answer_to reply_bytes maybe counted reply_to parts_of
       read_done r' l a b =
           let o : outcome c q (length r) ≡ 0 = asked-outcome (length r) ∙ rw (h, le-ltb _ _ l) in
-          (rw (a, length-is, o, A.request.is), rw (b, o, A.request.is, pieces_are))
+          (rw (a, length_is, o, A.request.is), rw (b, o, A.request.is, pieces_are))
 
   pub reply_length : length (reply_of (pieces_in t q d)) ≡ m.length
   reply_length = sym (ap (λ (y : Measured). y.length) A.measured)

@@ -27,8 +27,8 @@ module _ (k : Sort) (s : List ℕ) (i : ℕ) where
       let q : run k (drop i s) ≡ suc (run k (drop (i + 1) s)) = run_by h ∙ rw e in
       omega arith
 
-  pub run-stop : i < length s → is_of k (get_or s i 0) ≡ false → i + run k (drop i s) ≡ i
-  run-stop h e =
+  pub run_stop : i < length s → is_of k (get_or s i 0) ≡ false → i + run k (drop i s) ≡ i
+  run_stop h e =
       let q : run k (drop i s) ≡ 0 = run_by h ∙ rw e in
       omega arith
 
@@ -40,13 +40,13 @@ module _ (k : Sort) (s : List ℕ) (i : ℕ) where
 
 -- A decimal value, digit by digit.
 module _ (d : List ℕ) (i acc : ℕ) where
-  pub value-more : i < length d → value_after acc (drop i d) ≡ value_after (acc * 10 + (get_or d i 0 - 48)) (drop (i + 1) d)
+  pub value_more : i < length d → value_after acc (drop i d) ≡ value_after (acc * 10 + (get_or d i 0 - 48)) (drop (i + 1) d)
   unfolding value_after
-  value-more h = rw (add-one, drop-cons d i 0)
+  value_more h = rw (add-one, drop-cons d i 0)
 
-  pub value-end : length d ≤ i → value_after acc (drop i d) ≡ acc
+  pub value_end : length d ≤ i → value_after acc (drop i d) ≡ acc
   unfolding value_after
-  value-end h = rw (drop_of_length-le d {i = i} h)
+  value_end h = rw (drop_of_length-le d {i = i} h)
 
 pub value_grows : (a : ℕ) (ds : List ℕ) → a ≤ value_after a ds
 unfolding value_after
@@ -55,17 +55,17 @@ value_grows a (d ∷ ds) = omega (arith, value_grows (a * 10 + (d - 48)) ds)
 
 -- The three cases of a decimal number.
 module _ (ds : List ℕ) (next most : ℕ) where
-  pub decimal-none : length ds ≡ 0 → decimal_of ds next most ≡ Missing
+  pub decimal_none : length ds ≡ 0 → decimal_of ds next most ≡ Missing
   unfolding decimal_of
-  decimal-none e = rw (eq-eqb (length ds) 0 e)
+  decimal_none e = rw (eq-eqb (length ds) 0 e)
 
-  pub decimal-large : 0 < length ds → most < value_of ds → decimal_of ds next most ≡ TooLarge most
+  pub decimal_large : 0 < length ds → most < value_of ds → decimal_of ds next most ≡ TooLarge most
   unfolding decimal_of
-  decimal-large h k = rw (ne_eqb (length ds) 0 (λ e. omega arith), lt-ltb most (value_of ds) k)
+  decimal_large h k = rw (ne_eqb (length ds) 0 (λ e. omega arith), lt-ltb most (value_of ds) k)
 
-  pub decimal-value : 0 < length ds → (v : ℕ) → v ≡ value_of ds → v ≤ most → decimal_of ds next most ≡ Value v next
+  pub decimal_value : 0 < length ds → (v : ℕ) → v ≡ value_of ds → v ≤ most → decimal_of ds next most ≡ Value v next
   unfolding decimal_of
-  decimal-value h v e k = rw (ne_eqb (length ds) 0 (λ z. omega arith), ← e, le-ltb most v k)
+  decimal_value h v e k = rw (ne_eqb (length ds) 0 (λ z. omega arith), ← e, le-ltb most v k)
 
 -- A pair that is a byte has two digits.
 pair_short : (s : List ℕ) (at : ℕ) → ltb (length s - at) 2 ≡ true → pair_at s at ≡ NoPair

@@ -25,7 +25,7 @@ use Rattle.requests.specs.Cursors.{entry_at, test_at, body_of, body_at}
 use Rattle.requests.specs.Forms.{TableIn}
 use Rattle.requests.specs.Offsets.{resolved_of}
 use Rattle.requests.proofs.CursorLaws.{entry_resolved}
-use Rattle.requests.proofs.FormLaws.{all-next, all_end, sum-next, times-next}
+use Rattle.requests.proofs.FormLaws.{all_next, all_end, sum_next, times_next}
 use Rattle.replies.specs.Pieces.{pieces_from, pieces_in, resolve_from, measured_of}
 use Rattle.requests.specs.declared.cursors.Entry.{Entry}
 use Rattle.requests.specs.declared.cursors.TestEntry.{TestEntry}
@@ -115,22 +115,22 @@ module _ (stride left p : ℕ) (q d : List ℕ) (h : 0 < left) where
   one : left ≡ suc (left - 1)
   one = omega arith
 
-  pieces-next : pieces_from stride left p q d
+  pieces_next : pieces_from stride left p q d
       ≡ piece d (entry_offset p q) (entry_count p q) ∷ pieces_from stride (left - 1) (p + stride) q d
   unfolding pieces_from
-  pieces-next = ap (λ (n : ℕ). pieces_from stride n p q d) one
+  pieces_next = ap (λ (n : ℕ). pieces_from stride n p q d) one
 
-  resolve-next : resolve_from stride left p q (length d)
+  resolve_next : resolve_from stride left p q (length d)
       ≡ (resolves (entry_offset p q) (length d) && resolve_from stride (left - 1) (p + stride) q (length d))
   unfolding resolve_from
-  resolve-next = all-next stride left p h (λ k. resolves (entry_offset k q) (length d))
+  resolve_next = all_next stride left p h (λ k. resolves (entry_offset k q) (length d))
 
-  hold-next : (b : ℕ) → every (holds d) (tests_from left p b q)
+  hold_next : (b : ℕ) → every (holds d) (tests_from left p b q)
       ≡ (decides (entry_opcode p q)
       (order (piece d (entry_offset p q) (entry_count p q)) (take (entry_specimen p q) (drop b q)))
       && every (holds d) (tests_from (left - 1) (p + test_size) (b + entry_specimen p q) q))
   unfolding every holds test_piece tests_from
-  hold-next b = ap (λ (n : ℕ). every (holds d) (tests_from n p b q)) one
+  hold_next b = ap (λ (n : ℕ). every (holds d) (tests_from n p b q)) one
 
 -- No entry is left.
 module _ (stride left p : ℕ) (q d : List ℕ) (h : left ≤ 0) where
@@ -145,9 +145,9 @@ module _ (stride left p : ℕ) (q d : List ℕ) (h : left ≤ 0) where
   unfolding resolve_from
   resolve-end = all_end stride left p h (λ k. resolves (entry_offset k q) (length d))
 
-  hold-end : (b : ℕ) → every (holds d) (tests_from left p b q) ≡ true
+  hold_end : (b : ℕ) → every (holds d) (tests_from left p b q) ≡ true
   unfolding every tests_from
-  hold-end b = ap (λ (n : ℕ). every (holds d) (tests_from n p b q)) none_left
+  hold_end b = ap (λ (n : ℕ). every (holds d) (tests_from n p b q)) none_left
 
 -- ---- the entry at p, as the code has read it: x, resolved to r
 pub record Reading (p stride : ℕ) (q d : List ℕ) (x : Entry) (r : Resolved) : Type 0 where
@@ -162,8 +162,8 @@ reading {p} {stride} {q} {d} {x} {r} o e f = record {
 }
 
 module _ {p stride : ℕ} {q d : List ℕ} {x : Entry} {r : Resolved} (E : Reading p stride q d x r) where
-  reading-count : x.count ≡ entry_count p q
-  reading-count = ap (λ (y : Entry). y.count) E.entry
+  reading_count : x.count ≡ entry_count p q
+  reading_count = ap (λ (y : Entry). y.count) E.entry
 
   reading-position : r.position ≡ position (entry_offset p q) (length d)
   reading-position = ap (λ (y : Resolved). y.position) E.place
@@ -171,13 +171,13 @@ module _ {p stride : ℕ} {q d : List ℕ} {x : Entry} {r : Resolved} (E : Readi
   reading-resolves : r.resolves ≡ resolves (entry_offset p q) (length d)
   reading-resolves = ap (λ (y : Resolved). y.resolves) E.place
 
-  pub reading-next : x.next.at ≡ p + stride
-  reading-next = ap (λ (y : Entry). y.next.at) E.entry
+  pub reading_next : x.next.at ≡ p + stride
+  reading_next = ap (λ (y : Entry). y.next.at) E.entry
 
   -- The piece that the code takes is the entry's.
   pub reading-piece : take x.count (drop r.position d) ≡ piece d (entry_offset p q) (entry_count p q)
   unfolding piece
-  reading-piece = rw (reading-count, reading-position)
+  reading-piece = rw (reading_count, reading-position)
 
 -- ---- measuring
 -- What is left of the table t, with what has been measured so far.
@@ -192,42 +192,42 @@ pub measuring_start : (t : Table) (q d : List ℕ) → TableIn q t
 measuring_start t q d h = record { reaches = h.inside; resolved = refl; summed = omega arith }
 
 module _ {t : Table} {q d : List ℕ} {m : Measured} {at left : ℕ} (M : Measuring t q d m at left) where
-  measuring-sum : (h : 0 < left)
+  measuring_sum : (h : 0 < left)
       → let s = piece d (entry_offset at q) (entry_count at q) in
       let rest = pieces_from t.stride (left - 1) (at + t.stride) q d in
       m.length + (length_size + length s) + length (reply_of rest) ≡ length (reply_of (pieces_in t q d))
-  measuring-sum h =
+  measuring_sum h =
       let s = piece d (entry_offset at q) (entry_count at q) in
       let rest = pieces_from t.stride (left - 1) (at + t.stride) q d in
-      let e = ap (λ (ps : List (List ℕ)). length (reply_of ps)) (pieces-next t.stride left at q d h) in
+      let e = ap (λ (ps : List (List ℕ)). length (reply_of ps)) (pieces_next t.stride left at q d h) in
       omega (arith, M.summed, reply_cons s rest)
 
   module _ (h : 0 < left) {x : Entry} {r : Resolved} (E : Reading at t.stride q d x r) (s : List ℕ)
       (is : s ≡ take x.count (drop r.position d)) where
-    measuring-piece : length s ≡ length (piece d (entry_offset at q) (entry_count at q))
-    measuring-piece = ap length (is ∙ reading-piece E)
+    measuring_piece : length s ≡ length (piece d (entry_offset at q) (entry_count at q))
+    measuring_piece = ap length (is ∙ reading-piece E)
 
     -- The lengths add up without wrapping.
-    pub measuring-bound : TableIn q t → length d ≤ limit
+    pub measuring_bound : TableIn q t → length d ≤ limit
         → m.length + (length_size + length s) ≤ (length_size + limit) * entry_limit
-    measuring-bound T l =
-        omega (arith, measuring-sum h, measuring-piece, reply_most t.stride t.count t.first.at q d l, T.few)
+    measuring_bound T l =
+        omega (arith, measuring_sum h, measuring_piece, reply_most t.stride t.count t.first.at q d l, T.few)
 
-    pub measuring-next : (a : Bool) → a ≡ (m.resolves && r.resolves)
+    pub measuring_next : (a : Bool) → a ≡ (m.resolves && r.resolves)
         → Measuring t q d (record { resolves = a; length = m.length + (length_size + length s) }) x.next.at
         (left - 1)
-    measuring-next a f =
+    measuring_next a f =
         let y = resolve_from t.stride (left - 1) (at + t.stride) q (length d) in
-        rw (reading-next E) (record {
-          reaches = omega (arith, M.reaches, times-next t.stride left at h);
+        rw (reading_next E) (record {
+          reaches = omega (arith, M.reaches, times_next t.stride left at h);
           resolved =
               rw (f, reading-resolves E) (and_assoc m.resolves (resolves (entry_offset at q) (length d)) y)
-              ∙ ap (λ (k : Bool). m.resolves && k) (sym (resolve-next t.stride left at q d h)) ∙ M.resolved;
-          summed = rw measuring-piece (measuring-sum h);
+              ∙ ap (λ (k : Bool). m.resolves && k) (sym (resolve_next t.stride left at q d h)) ∙ M.resolved;
+          summed = rw measuring_piece (measuring_sum h);
         })
 
-  pub measuring-end : left ≤ 0 → m ≡ measured_of t q d
-  measuring-end h =
+  pub measuring_end : left ≤ 0 → m ≡ measured_of t q d
+  measuring_end h =
       let a : m.resolves ≡ resolve_from t.stride t.count t.first.at q (length d) =
       sym (and-true m.resolves)
       ∙ ap (λ (k : Bool). m.resolves && k) (sym (resolve-end t.stride left at q d h)) ∙ M.resolved in
@@ -297,14 +297,14 @@ module _ {t : Table} {q d r₀ r : List ℕ} {to behind at left : ℕ} (W : Writ
     abbrev rest : List (List ℕ)
     rest = pieces_from t.stride (left - 1) (at + t.stride) q d
 
-    writing-pieces : pieces_from t.stride left at q d ≡ s ∷ rest
-    writing-pieces =
-        pieces-next t.stride left at q d h ∙ ap (λ (y : List ℕ). y ∷ rest) (sym (is ∙ reading-piece E))
+    writing_pieces : pieces_from t.stride left at q d ≡ s ∷ rest
+    writing_pieces =
+        pieces_next t.stride left at q d h ∙ ap (λ (y : List ℕ). y ∷ rest) (sym (is ∙ reading-piece E))
 
     -- The piece has room, with those behind it.
-    pub writing-room : behind + length s + length (join rest) ≤ length r
-    writing-room =
-        let e = ap (λ (ps : List (List ℕ)). length (join ps)) writing-pieces in
+    pub writing_room : behind + length s + length (join rest) ≤ length r
+    writing_room =
+        let e = ap (λ (ps : List (List ℕ)). length (join ps)) writing_pieces in
         omega (arith, W.room, length-join s rest)
 
     pub writing-next :
@@ -313,24 +313,24 @@ module _ {t : Table} {q d r₀ r : List ℕ} {to behind at left : ℕ} (W : Writ
     writing-next =
         let w : List ℕ = digits length_size (length s) in
         let lw : length w ≡ length_size = length_digits length_size (length s) in
-        let room = writing-room in
+        let room = writing_room in
         let lr : length (put to w r) ≡ length r = put-length to w r (omega (arith, W.apart)) in
         let ls : length (put behind s (put to w r)) ≡ length (put to w r) =
         put-length behind s (put to w r) (omega arith) in
         let lp : length rest ≡ left - 1 = length_pieces t.stride (left - 1) (at + t.stride) q d in
-        rw (reading-next E) (record {
-          reaches = omega (arith, W.reaches, times-next t.stride left at h);
+        rw (reading_next E) (record {
+          reaches = omega (arith, W.reaches, times_next t.stride left at h);
           apart = omega (arith, W.apart);
           room = omega arith;
           same = omega (arith, W.same);
           written =
               sym (put_turn to behind s rest r (omega (arith, W.apart)) (omega (arith, length-join s rest)))
-              ∙ (rw writing-pieces at W.written);
+              ∙ (rw writing_pieces at W.written);
         })
 
-  pub writing-end : left ≤ 0 → r ≡ put 0 (reply_of (pieces_in t q d)) r₀
+  pub writing_end : left ≤ 0 → r ≡ put 0 (reply_of (pieces_in t q d)) r₀
   unfolding join
-  writing-end h =
+  writing_end h =
       let e = pieces_end t.stride left at q d h in
       sym (put-end behind _ _ (ap join e) ∙ put-end to _ r (ap table_of e)) ∙ W.written
 
@@ -355,26 +355,26 @@ pub record Holding (q d : List ℕ) (p n b at left body : ℕ) : Type 0 where
   pub held : every (holds d) (tests_from left at body q) ≡ every (holds d) (tests_from n p b q)
 
 module _ {q d : List ℕ} {p n b at left body : ℕ} (H : Holding q d p n b at left body) where
-  pub holding-end : left ≤ 0 → true ≡ every (holds d) (tests_from n p b q)
-  holding-end h = sym (hold-end test_size left at q d h body) ∙ H.held
+  pub holding_end : left ≤ 0 → true ≡ every (holds d) (tests_from n p b q)
+  holding_end h = sym (hold_end test_size left at q d h body) ∙ H.held
 
   module _ (h : 0 < left) where
     -- The specimen lies inside the request.
-    pub holding-specimen : body + entry_specimen at q ≤ length q
-    holding-specimen = omega (arith, H.specimens, sum-next test_size left at h (λ i. entry_specimen i q))
+    pub holding_specimen : body + entry_specimen at q ≤ length q
+    holding_specimen = omega (arith, H.specimens, sum_next test_size left at h (λ i. entry_specimen i q))
 
-    holding-turn : (holds_at at body q d
+    holding_turn : (holds_at at body q d
         && every (holds d) (tests_from (left - 1) (at + test_size) (body + entry_specimen at q) q))
         ≡ every (holds d) (tests_from n p b q)
-    holding-turn = sym (hold-next test_size left at q d h body) ∙ H.held
+    holding_turn = sym (hold_next test_size left at q d h body) ∙ H.held
 
-    pub holding-false : holds_at at body q d ≡ false → false ≡ every (holds d) (tests_from n p b q)
-    holding-false e = rw e at holding-turn
+    pub holding_false : holds_at at body q d ≡ false → false ≡ every (holds d) (tests_from n p b q)
+    holding_false e = rw e at holding_turn
 
-    pub holding-next : {x : TestEntry} → x ≡ test_at at q → holds_at at body q d ≡ true
+    pub holding_next : {x : TestEntry} → x ≡ test_at at q → holds_at at body q d ≡ true
         → Holding q d p n b x.next.at (left - 1) (body + x.specimen)
-    holding-next is e = rw is (record {
-      reaches = omega (arith, H.reaches, times-next test_size left at h);
-      specimens = omega (arith, H.specimens, sum-next test_size left at h (λ i. entry_specimen i q));
-      held = rw e at holding-turn;
+    holding_next is e = rw is (record {
+      reaches = omega (arith, H.reaches, times_next test_size left at h);
+      specimens = omega (arith, H.specimens, sum_next test_size left at h (λ i. entry_specimen i q));
+      held = rw e at holding_turn;
     })

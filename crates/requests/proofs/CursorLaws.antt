@@ -76,8 +76,8 @@ back_inside k size h = rw (le-leb k size h)
 module _ (z : ℤ) (size : ℕ) (f : SFits w32 z) where
   -- not negative
   module _ (e : le_z (pos 0) (to_z w32 (of_z w32 z)) ≡ true) where
-    pub resolved-fits : T (non_neg (to_z w32 (of_z w32 z))) × Fits w64 (nat_abs (to_z w32 (of_z w32 z)))
-    resolved-fits = rw (to_z-of_z w32 z f) (above-fits z f (rw (to_z-of_z w32 z f) at e))
+    pub resolved_fits : T (non_neg (to_z w32 (of_z w32 z))) × Fits w64 (nat_abs (to_z w32 (of_z w32 z)))
+    resolved_fits = rw (to_z-of_z w32 z f) (above-fits z f (rw (to_z-of_z w32 z f) at e))
 
     pub resolved-above :
         ◌≡◌ {A = Resolved} (record { resolves = true; position = nat_abs (to_z w32 (of_z w32 z)) }) (resolved_of z size)
@@ -88,17 +88,17 @@ module _ (z : ℤ) (size : ℕ) (f : SFits w32 z) where
     pub behind : Behind z
     behind = behind_is z f (rw (to_z-of_z w32 z f) at e)
 
-    pub behind-fits : T (non_neg (to_z w32 (of_z w32 (backed z)))) × Fits w64 (nat_abs (to_z w32 (of_z w32 (backed z))))
-    behind-fits = rw behind.read (tt, record { fits = omega (arith, behind.small) })
+    pub behind_fits : T (non_neg (to_z w32 (of_z w32 (backed z)))) × Fits w64 (nat_abs (to_z w32 (of_z w32 (backed z))))
+    behind_fits = rw behind.read (tt, record { fits = omega (arith, behind.small) })
 
-    pub resolved-before : size < nat_abs (to_z w32 (of_z w32 (backed z)))
+    pub resolved_before : size < nat_abs (to_z w32 (of_z w32 (backed z)))
         → ◌≡◌ {A = Resolved} (record { resolves = false; position = 0 }) (resolved_of z size)
-    resolved-before h = rw behind.is (back_before behind.far size (rw behind.read at h))
+    resolved_before h = rw behind.is (back_before behind.far size (rw behind.read at h))
 
-    pub resolved-inside : nat_abs (to_z w32 (of_z w32 (backed z))) ≤ size
+    pub resolved_inside : nat_abs (to_z w32 (of_z w32 (backed z))) ≤ size
         → ◌≡◌ {A = Resolved} (record { resolves = true; position = size - nat_abs (to_z w32 (of_z w32 (backed z))) })
         (resolved_of z size)
-    resolved-inside h =
+    resolved_inside h =
         rw behind.read
         (back_inside behind.far size (rw behind.read at h)
         ∙ ap (λ (y : ℤ). resolved_of y size) (sym behind.is))

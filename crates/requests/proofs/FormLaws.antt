@@ -40,16 +40,16 @@ module _ (stride left p : ℕ) (h : 0 < left) where
   one : left ≡ suc (left - 1)
   one = omega arith
 
-  pub all-next : (t : ℕ → Bool) → all_from t stride left p ≡ (t p && all_from t stride (left - 1) (p + stride))
+  pub all_next : (t : ℕ → Bool) → all_from t stride left p ≡ (t p && all_from t stride (left - 1) (p + stride))
   unfolding all_from
-  all-next t = ap (λ (n : ℕ). all_from t stride n p) one
+  all_next t = ap (λ (n : ℕ). all_from t stride n p) one
 
-  pub sum-next : (f : ℕ → ℕ) → sum_from f stride left p ≡ f p + sum_from f stride (left - 1) (p + stride)
+  pub sum_next : (f : ℕ → ℕ) → sum_from f stride left p ≡ f p + sum_from f stride (left - 1) (p + stride)
   unfolding sum_from
-  sum-next f = ap (λ (n : ℕ). sum_from f stride n p) one
+  sum_next f = ap (λ (n : ℕ). sum_from f stride n p) one
 
-  pub times-next : stride * left ≡ stride * (left - 1) + stride
-  times-next = ap (λ (n : ℕ). stride * n) one ∙ mul-suc stride (left - 1)
+  pub times_next : stride * left ≡ stride * (left - 1) + stride
+  times_next = ap (λ (n : ℕ). stride * n) one ∙ mul-suc stride (left - 1)
 
 module _ (stride left p : ℕ) (h : left ≤ 0) where
   none_left : left ≡ 0
@@ -97,17 +97,17 @@ testing_next {q} {p} {n} {good} {sum} {at} {left} t h g s e k =
     let m : ℕ = left - 1 in
     record {
       few = omega (arith, t.few);
-      reaches = omega (arith, t.reaches, times-next test_size left at h);
+      reaches = omega (arith, t.reaches, times_next test_size left at h);
       tested =
           rw e (and_assoc good (test_entry_ok q at) (all_from (test_entry_ok q) test_size m (at + test_size)))
-          ∙ ap (λ (b : Bool). good && b) (sym (all-next test_size left at h (test_entry_ok q))) ∙ t.tested;
-      summed = omega (arith, t.summed, sum-next test_size left at h (λ i. entry_specimen i q));
+          ∙ ap (λ (b : Bool). good && b) (sym (all_next test_size left at h (test_entry_ok q))) ∙ t.tested;
+      summed = omega (arith, t.summed, sum_next test_size left at h (λ i. entry_specimen i q));
     }
 
 pub testing_bound : {q : List ℕ} {p n : ℕ} {good : Bool} {sum at left : ℕ} → Testing q p n good sum at left → 0 < left
     → sum + entry_specimen at q ≤ sum_from (λ i. entry_specimen i q) test_size n p
 testing_bound {q} {p} {n} {good} {sum} {at} {left} t h =
-    omega (arith, t.summed, sum-next test_size left at h (λ i. entry_specimen i q))
+    omega (arith, t.summed, sum_next test_size left at h (λ i. entry_specimen i q))
 
 pub testing_end : {q : List ℕ} {p n : ℕ} {good : Bool} {sum at left : ℕ} → Testing q p n good sum at left → left ≤ 0
     → ◌≡◌ {A = TestsPassed} (record { good = good; length = sum; next = record { at = at } }) (tests_passed p n q)
@@ -133,8 +133,8 @@ pub adding_next : {q : List ℕ} {p n sum at left : ℕ} → Adding q p n sum at
     → (s : ℕ) → s ≡ entry_count at q → Adding q p n (sum + s) (at + entry_size) (left - 1)
 adding_next {q} {p} {n} {sum} {at} {left} t h s k = record {
   few = omega (arith, t.few);
-  reaches = omega (arith, t.reaches, times-next entry_size left at h);
-  summed = omega (arith, t.summed, sum-next entry_size left at h (λ i. entry_count i q));
+  reaches = omega (arith, t.reaches, times_next entry_size left at h);
+  summed = omega (arith, t.summed, sum_next entry_size left at h (λ i. entry_count i q));
 }
 
 pub adding_end : {q : List ℕ} {p n sum at left : ℕ} → Adding q p n sum at left → left ≤ 0
@@ -263,39 +263,39 @@ pub record Found (q : List ℕ) (x : Header) (e : Body) (t : TestsPassed) (w : W
   pub writes : w ≡ writes_passed t.next.at x.writes q
 
 module _ {q : List ℕ} {x : Header} {e : Body} {t : TestsPassed} {w : WritesPassed} (F : Found q x e t w) where
-  header-next : x.next ≡ record { at = secret_at }
-  header-next = ap (λ (p : ℕ). record { at = p }) F.header.next
+  header_next : x.next ≡ record { at = secret_at }
+  header_next = ap (λ (p : ℕ). record { at = p }) F.header.next
 
-  enabler-at : e ≡ body_at secret_at secret_size
-  enabler-at = F.enabler ∙ rw F.header.next
+  enabler_at_lem : e ≡ body_at secret_at secret_size
+  enabler_at_lem = F.enabler ∙ rw F.header.next
 
-  pub tests-at : t ≡ tests_passed tests_at (test_count q) q
-  tests-at = F.tests ∙ rw (enabler-at, F.header.tests)
+  pub tests_at_lem : t ≡ tests_passed tests_at (test_count q) q
+  tests_at_lem = F.tests ∙ rw (enabler_at_lem, F.header.tests)
 
-  pub writes-at : w ≡ writes_passed (writes_at q) (write_count q) q
+  pub writes_at_lem : w ≡ writes_passed (writes_at q) (write_count q) q
   unfolding writes_at
-  writes-at = F.writes ∙ rw (tests-at, F.header.writes)
+  writes_at_lem = F.writes ∙ rw (tests_at_lem, F.header.writes)
 
-  pub specimens-at : w.next.at ≡ specimens_at q
+  pub specimens_at_lem : w.next.at ≡ specimens_at q
   unfolding specimens_at
-  specimens-at = ap (λ (y : WritesPassed). y.next.at) writes-at
+  specimens_at_lem = ap (λ (y : WritesPassed). y.next.at) writes_at_lem
 
   pub ends_at : test_write_end q ≡ w.next.at + t.length + w.length
   unfolding test_write_end new_data_at
-  ends_at = sym (rw (specimens-at, tests-at, writes-at))
+  ends_at = sym (rw (specimens_at_lem, tests_at_lem, writes_at_lem))
 
   pub entries_at : t.good ≡ all_from (test_entry_ok q) test_size (test_count q) tests_at
-  entries_at = ap (λ (y : TestsPassed). y.good) tests-at
+  entries_at = ap (λ (y : TestsPassed). y.good) tests_at_lem
 
-  placed-is : (b : Body) → b ≡ body_at w.next.at t.length → parted_as x e.next t.next w.next b.next
+  placed_is : (b : Body) → b ≡ body_at w.next.at t.length → parted_as x e.next t.next w.next b.next
       ≡ placed_at q
   unfolding writes_at specimens_at new_data_at
-  placed-is b k = rw (
+  placed_is b k = rw (
     k,
-    header-next,
-    enabler-at,
-    tests-at,
-    writes-at,
+    header_next,
+    enabler_at_lem,
+    tests_at_lem,
+    writes_at_lem,
     F.header.tests,
     F.header.writes,
     F.header.flag,
@@ -307,7 +307,7 @@ module _ {q : List ℕ} {x : Header} {e : Body} {t : TestsPassed} {w : WritesPas
       → TableFacts q → length q ≤ request_limit → Takes q (by_kind 1 q) r
   unfolding by_kind is_some
   taken b r k e f s =
-      rw (e ∙ placed-is b k)
+      rw (e ∙ placed_is b k)
       (record {
         number = rw (table_true q f);
         asks = rw (table_true q f) (asked-placed q);

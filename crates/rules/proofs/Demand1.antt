@@ -15,7 +15,7 @@ use Rattle.format.specs.Container.{length_allowed, well_formed}
 use Rattle.format.specs.Parts.{parts_of, encode, fresh}
 use Rattle.format.specs.Claims.{Valid}
 use Rattle.octets.proofs.ListLaws.{both}
-use Rattle.format.proofs.RoundTrip.{parts_valid, encode-formed, length-encode, leases-encode, fresh_valid}
+use Rattle.format.proofs.RoundTrip.{parts_valid, encode_formed, length-encode, leases_encode, fresh_valid}
 use Rattle.rules.specs.Requests.{Test, Read, Write, Request, test_write, read, kind_of}
 use Rattle.rules.specs.Requests.{request_of}
 use Rattle.rules.specs.Testing.{test_piece, read_piece, reply_of}
@@ -52,19 +52,19 @@ room_parts c = refl
 
 module _ (c q r : List ℕ) where
   -- where the request is done, the container is the encoding of valid parts
-  pub done-valid : outcome c q (length r) ≡ 0 → Valid (after_of (parts_of c) (request_of q))
-  done-valid e =
+  pub done_valid : outcome c q (length r) ≡ 0 → Valid (after_of (parts_of c) (request_of q))
+  done_valid e =
       let w : well_formed c ≡ true = replied_formed c q (length r) (done-replies _ e) in
       valid_after (parts_of c) (request_of q) (length r) (parts_valid c w) (request_proper q)
       (eq-eqb _ _ (sym (outcome_formed c q (length r) w) ∙ e))
 
-  pub done-container : outcome c q (length r) ≡ 0 → container_after c q r ≡ encode (after_of (parts_of c) (request_of q))
+  pub done_container : outcome c q (length r) ≡ 0 → container_after c q r ≡ encode (after_of (parts_of c) (request_of q))
   unfolding container_after
-  done-container e = rw e
+  done_container e = rw e
 
-  pub refused-container : (outcome c q (length r) ≡ 0 → ⊥) → container_after c q r ≡ c
+  pub refused_container : (outcome c q (length r) ≡ 0 → ⊥) → container_after c q r ≡ c
   unfolding container_after
-  refused-container e = rw (ne_eqb (outcome c q (length r)) 0 e)
+  refused_container e = rw (ne_eqb (outcome c q (length r)) 0 e)
 
   container_length : length (container_after c q r) ≡ length c
   container_length = go (eqb (outcome c q (length r)) 0) refl
@@ -72,30 +72,30 @@ module _ (c q r : List ℕ) where
       go : (b : Bool) → eqb (outcome c q (length r)) 0 ≡ b → length (container_after c q r) ≡ length c
       go true e =
           let z = eqb-true _ _ e in
-          ap length (done-container z)
-          ∙ length-encode _ (done-valid z)
+          ap length (done_container z)
+          ∙ length-encode _ (done_valid z)
           ∙ room_after (parts_of c) (request_of q)
           ∙ room_parts c
-      go false e = ap length (refused-container (eqb-false _ _ e))
+      go false e = ap length (refused_container (eqb-false _ _ e))
 
   stays_formed : well_formed c ≡ true → well_formed (container_after c q r) ≡ true
   stays_formed w = go (eqb (outcome c q (length r)) 0) refl
     where
       go : (b : Bool) → eqb (outcome c q (length r)) 0 ≡ b → well_formed (container_after c q r) ≡ true
-      go true e = let z = eqb-true _ _ e in rw (done-container z) (encode-formed _ (done-valid z))
-      go false e = rw (refused-container (eqb-false _ _ e)) w
+      go true e = let z = eqb-true _ _ e in rw (done_container z) (encode_formed _ (done_valid z))
+      go false e = rw (refused_container (eqb-false _ _ e)) w
 
-  silent-reply : replies (outcome c q (length r)) ≡ false → reply_after c q r ≡ r
+  silent_reply : replies (outcome c q (length r)) ≡ false → reply_after c q r ≡ r
   unfolding reply_after
-  silent-reply e = rw e
+  silent_reply e = rw e
 
-  written-reply : replies (outcome c q (length r)) ≡ true →
+  written_reply : replies (outcome c q (length r)) ≡ true →
       reply_after c q r ≡ put 0 (reply_bytes (parts_of c) (request_of q)) r
   unfolding reply_after
-  written-reply e = rw e
+  written_reply e = rw e
 
-  written-fits : replies (outcome c q (length r)) ≡ true → length (reply_bytes (parts_of c) (request_of q)) ≤ length r
-  written-fits e =
+  written_fits : replies (outcome c q (length r)) ≡ true → length (reply_bytes (parts_of c) (request_of q)) ≤ length r
+  written_fits e =
       let w : well_formed c ≡ true = replied_formed c q (length r) e in
       reply_fits (parts_of c) (request_of q) (length r) (rw (outcome_formed c q (length r) w) at e)
 
@@ -104,25 +104,25 @@ module _ (c q r : List ℕ) where
     where
       go : (b : Bool) → replies (outcome c q (length r)) ≡ b → length (reply_after c q r) ≡ length r
       go true e =
-          let h = written-fits e in
-          ap length (written-reply e) ∙ put-length 0 (reply_bytes (parts_of c) (request_of q)) r (omega arith)
-      go false e = ap length (silent-reply e)
+          let h = written_fits e in
+          ap length (written_reply e) ∙ put-length 0 (reply_bytes (parts_of c) (request_of q)) r (omega arith)
+      go false e = ap length (silent_reply e)
 
-  reply-front : drop (answered c q r).count (reply_after c q r) ≡ drop (answered c q r).count r
+  reply_front : drop (answered c q r).count (reply_after c q r) ≡ drop (answered c q r).count r
   unfolding answered
-  reply-front = go (replies (outcome c q (length r))) refl
+  reply_front = go (replies (outcome c q (length r))) refl
     where
       go : (b : Bool) → replies (outcome c q (length r)) ≡ b →
           drop (answered c q r).count (reply_after c q r) ≡ drop (answered c q r).count r
-      go true e = rw (written-reply e) (counted_front (parts_of c) (request_of q) (outcome c q (length r)) r e)
-      go false e = rw (silent-reply e)
+      go true e = rw (written_reply e) (counted_front (parts_of c) (request_of q) (outcome c q (length r)) r e)
+      go false e = rw (silent_reply e)
 
   -- the reply of a request that counts its reply bytes
-  request-reply : (x : Request) → request_of q ≡ some x → counted (parts_of c) x ≡ length (reply_to (parts_of c) x) →
+  request_reply : (x : Request) → request_of q ≡ some x → counted (parts_of c) x ≡ length (reply_to (parts_of c) x) →
       replies (outcome c q (length r)) ≡ true → Reported c q r (reply_to (parts_of c) x)
   unfolding answered reply_bytes maybe
-  request-reply x f k e = record {
-    reply = written-reply e ∙ rw f refl;
+  request_reply x f k e = record {
+    reply = written_reply e ∙ rw f refl;
     count = rw f (replied (outcome c q (length r)) (parts_of c) x e ∙ k);
   }
 
@@ -130,30 +130,30 @@ module _ (c q r : List ℕ) where
       request_of q ≡ some (test_write k ts ws cut) → replies (outcome c q (length r)) ≡ true →
       Reported c q r (reply_of (map (test_piece (data_of c)) ts))
   unfolding reply_to counted parts_of
-  tests_reply k ts ws cut f = request-reply (test_write k ts ws cut) f refl
+  tests_reply k ts ws cut f = request_reply (test_write k ts ws cut) f refl
 
   pub reads_reply : (rs : List Read) → request_of q ≡ some (read rs) → replies (outcome c q (length r)) ≡ true →
       Reported c q r (reply_of (map (read_piece (data_of c)) rs))
   unfolding reply_to counted parts_of
-  reads_reply rs f = request-reply (read rs) f refl
+  reads_reply rs f = request_reply (read rs) f refl
 
   leases_silent : Among (kind_of q) (2 ∷ 3 ∷ 4 ∷ []) → reply_after c q r ≡ r
   leases_silent l = go (replies (outcome c q (length r))) refl
     where
       go : (b : Bool) → replies (outcome c q (length r)) ≡ b → reply_after c q r ≡ r
-      go true e = written-reply e ∙ rw (lease_reply (parts_of c) q l (kinds q)) refl
-      go false e = silent-reply e
+      go true e = written_reply e ∙ rw (lease_reply (parts_of c) q l (kinds q)) refl
+      go false e = silent_reply e
 
   leases_count : Among (kind_of q) (2 ∷ 3 ∷ 4 ∷ []) → outcome c q (length r) ≡ 0 →
       (answered c q r).count ≡ present (leases_of (container_after c q r))
   unfolding answered
   leases_count l e =
       let h : request_of q ≡ none → ⊥ = done_unbroken c q (length r) e in
-      rw (e, done-container e, leases-encode _ (done-valid e)) (lease_count (parts_of c) q l h (kinds q))
+      rw (e, done_container e, leases_encode _ (done_valid e)) (lease_count (parts_of c) q l h (kinds q))
 
-  node-is : outcome c q (length r) ≡ 5 → (answered c q r).node ≡ node_of c
+  node_is : outcome c q (length r) ≡ 5 → (answered c q r).node ≡ node_of c
   unfolding answered parts_of
-  node-is e =
+  node_is e =
       let h : request_of q ≡ none → ⊥ =
       λ f. broken_is (λ n. n ≡ 5 → ⊥) c q (length r) f (λ z. omega arith) (λ z. omega arith) (λ z. omega arith) e in
       five_node (outcome c q (length r)) (parts_of c) (request_of q) h e
@@ -162,27 +162,27 @@ module _ (c q r : List ℕ) where
   unfolding answered
   no_node_holds h = other_node (outcome c q (length r)) (parts_of c) (request_of q) h
 
-  no-count : replies (outcome c q (length r)) ≡ false → (answered c q r).count ≡ 0
+  no_count : replies (outcome c q (length r)) ≡ false → (answered c q r).count ≡ 0
   unfolding answered
-  no-count e = uncounted (outcome c q (length r)) (parts_of c) (request_of q) e
+  no_count e = uncounted (outcome c q (length r)) (parts_of c) (request_of q) e
 
   -- DEMAND 1
-  pub demand-1 : Demand1 c q r
-  demand-1 =
+  pub demand_1 : Demand1 c q r
+  demand_1 =
       let n = answered-number c q r in
       record {
         number = rw n (outcome_among c q (length r));
         never_six = λ e. never_six c q (length r) (sym n ∙ e);
         broken = λ f. rw n (broken_among c q (length r) f);
-        refused = λ h. refused-container (λ e. h (n ∙ e));
-        silent = λ h k. silent-reply (unreplied _ (λ e. h (n ∙ e)) (λ e. k (n ∙ e)));
-        uncounted = λ h k. no-count (unreplied _ (λ e. h (n ∙ e)) (λ e. k (n ∙ e)));
-        front = reply-front;
+        refused = λ h. refused_container (λ e. h (n ∙ e));
+        silent = λ h k. silent_reply (unreplied _ (λ e. h (n ∙ e)) (λ e. k (n ∙ e)));
+        uncounted = λ h k. no_count (unreplied _ (λ e. h (n ∙ e)) (λ e. k (n ∙ e)));
+        front = reply_front;
         tests_reply = λ k ts ws cut f a. tests_reply k ts ws cut f (among_replies _ (rw n at a));
         reads_reply = λ rs f e. reads_reply rs f (done-replies _ (sym n ∙ e));
         leases_silent = leases_silent;
         leases_count = λ l e. leases_count l (sym n ∙ e);
-        node = λ e. node-is (sym n ∙ e);
+        node = λ e. node_is (sym n ∙ e);
         no_node_holds = λ h. no_node_holds (λ e. h (n ∙ e));
         container_length = container_length;
         reply_length = reply_length;
@@ -206,29 +206,29 @@ unfolding created_container
 created c node enabler e = rw e
 
 module _ (c node enabler : List ℕ) where
-  not-created : (create_outcome c node enabler ≡ 0 → ⊥) → created_container c node enabler ≡ c
+  not_created : (create_outcome c node enabler ≡ 0 → ⊥) → created_container c node enabler ≡ c
   unfolding created_container
-  not-created e = rw (ne_eqb (create_outcome c node enabler) 0 e)
+  not_created e = rw (ne_eqb (create_outcome c node enabler) 0 e)
 
-  created-length : length (created_container c node enabler) ≡ length c
+  created_length : length (created_container c node enabler) ≡ length c
   unfolding fresh
-  created-length = go (eqb (create_outcome c node enabler) 0) refl
+  created_length = go (eqb (create_outcome c node enabler) 0) refl
     where
       go : (b : Bool) → eqb (create_outcome c node enabler) 0 ≡ b → length (created_container c node enabler) ≡ length c
       go true e =
           let z = eqb-true _ _ e in
           ap length (created c node enabler z) ∙ length-encode _ (created_valid c node enabler z)
-      go false e = ap length (not-created (eqb-false _ _ e))
+      go false e = ap length (not_created (eqb-false _ _ e))
 
   -- DEMAND 1 of create
-  pub demand-1-create : Demand1Create c node enabler
+  pub demand_1_create : Demand1Create c node enabler
   unfolding create_answer
-  demand-1-create = record {
+  demand_1_create = record {
     number = create_among c node enabler;
     never_six = create_never_six c node enabler;
     no_node_holds = refl;
     uncounted = refl;
-    refused = not-created;
-    container_length = created-length;
-    made_formed = λ e. rw (created c node enabler e) (encode-formed _ (created_valid c node enabler e));
+    refused = not_created;
+    container_length = created_length;
+    made_formed = λ e. rw (created c node enabler e) (encode_formed _ (created_valid c node enabler e));
   }

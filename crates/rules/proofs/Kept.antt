@@ -16,7 +16,7 @@ use Rattle.format.specs.Parts.{Parts, count_in, used, extras, parts_of, no_lease
 use Rattle.format.specs.Claims.{Place, Valid}
 use Rattle.octets.specs.Lists.{is_some, maybe}
 use Rattle.octets.specs.Facts.{Each}
-use Rattle.octets.proofs.ListLaws.{both, each_append, each_take, each-drop, each_set, each_at}
+use Rattle.octets.proofs.ListLaws.{both, each_append, each_take, each_drop, each_set, each_at}
 use Rattle.format.proofs.WellFormed.{moved_most}
 use Rattle.format.proofs.RoundTrip.{count_is, parts_count, no_lease_lem}
 use Rattle.format.proofs.KnownLaws.{leases_extras}
@@ -26,7 +26,7 @@ use Rattle.rules.specs.Leasing.{renewed, cancelled, knows, present, placed_in}
 use Rattle.rules.specs.Outcomes.{with_bytes, with_leases, after, rows, room_rows, admit_rows, find_rows, request_rows}
 use Rattle.octets.specs.Rows.{first_row}
 use Rattle.rules.proofs.LeaseLaws.{Found, first_found, full-present, length-later}
-use Rattle.rules.proofs.LeaseLaws.{held-later, held_ok, last_drop-set, last_snoc, last_trim, each_trim}
+use Rattle.rules.proofs.LeaseLaws.{held-later, held_ok, last_drop_set, last_snoc, last_trim, each_trim}
 use Rattle.rules.proofs.LeaseLaws.{length-trim}
 use Rattle.octets.proofs.RowLaws.{Numbered, clear, rows_clear}
 
@@ -128,7 +128,7 @@ set-ordered ls i r o k h = record {
   four = rw length-set o.four;
   few = rw length-set o.few;
   places = each_set Place ls i r o.places k;
-  last = last_drop-set ls i r h o.last;
+  last = last_drop_set ls i r h o.last;
 }
 
 pub extended-ordered : (x : ℕ) (ls : List (List ℕ)) (i : ℕ) → i < length ls → held (get_or ls i []) ≡ true → Ordered ls
@@ -158,7 +158,7 @@ dropped_ordered ls f m e =
       four = omega arith;
       few = omega arith;
       places = each_append Place a b (each_take Place fixed_places ls e)
-          (each_trim Place (drop fixed_places ls) (each-drop Place fixed_places ls e));
+          (each_trim Place (drop fixed_places ls) (each_drop Place fixed_places ls e));
       last = rw (drop_at a b fixed_places la) (last_trim (drop fixed_places ls));
     }
 

@@ -88,9 +88,9 @@ last_set (x ∷ (y ∷ ls)) zero r h k = k
 last_set (x ∷ (y ∷ ls)) (suc zero) r h k = last_set (y ∷ ls) zero r h k
 last_set (x ∷ (y ∷ ls)) (suc (suc i)) r h k = last_set (y ∷ ls) (suc i) r h k
 
-pub last_drop-set : (ls : List (List ℕ)) (i : ℕ) (r : List ℕ) → held r ≡ true → last_held (drop fixed_places ls) ≡ true
+pub last_drop_set : (ls : List (List ℕ)) (i : ℕ) (r : List ℕ) → held r ≡ true → last_held (drop fixed_places ls) ≡ true
     → last_held (drop fixed_places (set ls i r)) ≡ true
-last_drop-set ls i r h k = go (ltb i fixed_places) refl
+last_drop_set ls i r h k = go (ltb i fixed_places) refl
   where
     go : (t : Bool) → ltb i fixed_places ≡ t → last_held (drop fixed_places (set ls i r)) ≡ true
     go true e = rw (drop-set-lt fixed_places ls i r (ltb-true i fixed_places e)) k

@@ -18,7 +18,7 @@ use Rattle.format.specs.Container.{held}
 use Rattle.format.specs.Parts.{Parts, extras, count_in, used, parts_of, encode, no_lease, fresh}
 use Rattle.format.specs.Claims.{Valid}
 use Rattle.format.proofs.JudgingLaws.{length-true}
-use Rattle.format.proofs.RoundTrip.{parts-encode, encode-formed, parts_used}
+use Rattle.format.proofs.RoundTrip.{parts_encode, encode_formed, parts_used}
 use Rattle.rules.specs.Requests.{Write, test_write, entry_offset, entry_count, entry_opcode, entry_specimen}
 use Rattle.rules.specs.Requests.{test_entry_ok, all_from, sum_from, tests_from, writes_from, test_count, write_count}
 use Rattle.rules.specs.Requests.{cut_flag, new_length, writes_at, specimens_at, new_data_at, test_write_end, cut_ok}
@@ -48,7 +48,7 @@ used_by [] p = used p ∷ []
 used_by (q ∷ qs) p = used p ∷ used_by qs (left_parts p q 8)
 
 used-encode : (p : Parts) → Valid p → used_end (encode p) ≡ used p
-used-encode p v = sym (parts_used (encode p) (encode-formed p v)) ∙ ap used (parts-encode p v)
+used-encode p v = sym (parts_used (encode p) (encode_formed p v)) ∙ ap used (parts_encode p v)
 
 numbers_by_lem : (qs : List (List ℕ)) (p : Parts) → Valid p → numbers qs (encode p) ≡ numbers_by qs p
 unfolding numbers numbers_by
@@ -59,7 +59,7 @@ numbers_by_lem (q ∷ qs) p v =
 
 finally_by_lem : (qs : List (List ℕ)) (p : Parts) → Valid p → data_of (finally qs (encode p)) ≡ (finally_by qs p).bytes
 unfolding finally finally_by parts_of
-finally_by_lem [] p v = ap (λ (x : Parts). x.bytes) (parts-encode p v)
+finally_by_lem [] p v = ap (λ (x : Parts). x.bytes) (parts_encode p v)
 finally_by_lem (q ∷ qs) p v =
     ap (λ (c : List ℕ). data_of (finally qs c)) (left_encode p q space v)
     ∙ finally_by_lem qs (left_parts p q 8) (left_valid p q 8 v)

@@ -1,19 +1,20 @@
 -- Every outcome is a number that the table has for the request's kind. Assumes nothing.
-use mathlib.Core.Path.{◌≡◌, refl, sym, ◌∙◌}
+use mathlib.Core.Path.{◌≡◌, refl, sym, subst, ◌∙◌}
 use mathlib.Core.Bool.{Bool, true, false, cond, not, false≢true}
-use mathlib.Core.List.{List, [], ◌∷◌}
-use mathlib.Core.Option.{none}
+use mathlib.Core.List.{List, [], ◌∷◌, ◌++◌}
+use mathlib.Core.Option.{Option, none}
 use Prim.Native.Nat.{ℕ, ◌≤◌}
 use native.Mathlib.Omega.{arith}
 use lib.Dec.{eqb, leb}
 use borrow.Author.Tests.{eqb-true, leb-true}
 use Rattle.format.specs.Container.{length_allowed, well_formed}
+use Rattle.format.specs.Parts.{parts_of}
 use Rattle.octets.specs.Lists.{any_of, every}
 use Rattle.octets.proofs.ListLaws.{both}
 use Rattle.octets.specs.Facts.{Each, Among}
-use Rattle.rules.specs.Requests.{test_write_of, request_of, kind_of}
+use Rattle.rules.specs.Requests.{Request, test_write_of, request_of, kind_of}
 use Rattle.octets.specs.Rows.{Row, first_row}
-use Rattle.rules.specs.Outcomes.{rows, room_rows, request_rows, outcome, create_outcome, admit_rows, find_rows}
+use Rattle.rules.specs.Outcomes.{container_rows, rows, room_rows, request_rows, outcome, create_outcome, admit_rows, find_rows}
 use Rattle.rules.specs.Claims.{numbers_for}
 use Rattle.rules.proofs.RequestLaws.{Kinds, broken, tests, adds, renews, cancels, reads, kinds}
 
@@ -51,7 +52,10 @@ kind_among : (c q : List ℕ) (n : ℕ) → Kinds q → Among (outcome c q n) (n
 unfolding outcome request_rows rows admit_rows find_rows room_rows numbers_for any_of test_write_of
 kind_among c q n (broken e) = broken_is (λ k. Among k (numbers_for (kind_of q))) c q n e refl refl refl
 kind_among c q n (tests k l o e) =
-    rw (e, k) (first_row_among (numbers_for 1) _ refl (refl, (refl, (refl, (refl, (refl, (refl, (refl, tt))))))))
+    rw k (subst
+    (λ (w : Option Request). Among (first_row (container_rows c ++ request_rows (parts_of c) w n)) (numbers_for 1))
+    (sym e)
+    (first_row_among (numbers_for 1) _ refl (refl, (refl, (refl, (refl, (refl, (refl, (refl, tt)))))))))
 kind_among c q n (adds k o e) = rw (e, k) (first_row_among (numbers_for 2) _ refl (refl, (refl, (refl, (refl, tt)))))
 kind_among c q n (renews k o e) = rw (e, k) (first_row_among (numbers_for 3) _ refl (refl, (refl, (refl, tt))))
 kind_among c q n (cancels k o e) = rw (e, k) (first_row_among (numbers_for 4) _ refl (refl, (refl, (refl, tt))))

@@ -12,7 +12,7 @@ use lib.IntN.{ℤ, pos, negsuc, nat_abs, pos-ne-negsuc}
 use borrow.Author.Tests.{leb-true, leb-false, le-leb, lt-ltb, le-ltb}
 use Rattle.octets.specs.Facts.{Each}
 use Rattle.octets.specs.Lists.{is_some, or_else, every}
-use Rattle.octets.proofs.ListLaws.{both, each_map, every-each, each-every}
+use Rattle.octets.proofs.ListLaws.{both, each_map, every_each, each_every}
 use Rattle.rules.specs.Requests.{Write}
 use Rattle.rules.specs.Testing.{resolve, resolves, position}
 use Rattle.rules.specs.Writing.{Placed, pad_to, write_at, grow, placed, writes_resolve, write_all, cut_to, rewritten}
@@ -97,11 +97,11 @@ module _ {A : Type 0} (at : A → ℤ) (xs : List A) (n : ℕ) where
   pub all_named : every (λ x. resolves (at x) n) xs ≡ true → Each (λ x. NotBefore (at x) n) xs
   all_named e =
       each_map (λ x. resolves (at x) n ≡ true) (λ x. NotBefore (at x) n) (λ x. resolves-named (at x) n) xs
-      (every-each (λ x. resolves (at x) n) xs e)
+      (every_each (λ x. resolves (at x) n) xs e)
 
-  pub named-all : Each (λ x. NotBefore (at x) n) xs → every (λ x. resolves (at x) n) xs ≡ true
-  named-all e =
-      each-every (λ x. resolves (at x) n) xs
+  pub named_all : Each (λ x. NotBefore (at x) n) xs → every (λ x. resolves (at x) n) xs ≡ true
+  named_all e =
+      each_every (λ x. resolves (at x) n) xs
       (each_map (λ x. NotBefore (at x) n) (λ x. resolves (at x) n ≡ true) (λ x. named-resolves (at x) n) xs e)
 
 -- and of writes, each on the size that those before it give
@@ -170,10 +170,10 @@ write-end d (b ∷ bs) =
     rw (z, e, append-nil d, take_all (length d) d (omega arith)) (append-nil (d ++ (b ∷ bs)))
 
 module _ (us : List Write) (w : Write) (d : List ℕ) where
-  next-is : rewritten (us ++ (w ∷ [])) none d
+  next_is : rewritten (us ++ (w ∷ [])) none d
       ≡ write_at (rewritten us none d) (position w.offset (length (rewritten us none d))) w.bytes
   unfolding rewritten cut_to placed write_all
-  next-is =
+  next_is =
       ap (λ (ps : List Placed). write_all ps d) (placed-append us (w ∷ []) (length d))
       ∙ write_all-append (placed us (length d)) _ d
       ∙ rw (length-write_all (placed us (length d)) d) refl
@@ -187,14 +187,14 @@ module _ (us : List Write) (w : Write) (d : List ℕ) where
   none_left = refl
 
   -- THE NEXT WRITE
-  pub next-write : NextWrite us w d
+  pub next_write : NextWrite us w d
   unfolding position or_else
-  next-write =
+  next_write =
       let e : List ℕ = rewritten us none d in
       record {
         none_before = none_left;
-        made = λ p f. next-is ∙ rw f refl;
-        appended = λ f. next-is
+        made = λ p f. next_is ∙ rw f refl;
+        appended = λ f. next_is
             ∙ ap (λ (p : ℕ). write_at e p w.bytes) (rw f (end-position (length e))) ∙ write-end e w.bytes;
         cut_last = cut_last;
       }

@@ -18,7 +18,7 @@ use Rattle.octets.proofs.RowLaws.{clear}
 use Rattle.format.specs.Container.{well_formed}
 use Rattle.format.specs.Layout.{data_of}
 use Rattle.format.specs.Parts.{Parts, parts_of}
-use Rattle.format.proofs.RoundTrip.{parts-encode}
+use Rattle.format.proofs.RoundTrip.{parts_encode}
 use Rattle.rules.specs.Requests.{Test, Write, Request, test_write, add, renew, cancel, read, request_of}
 use Rattle.rules.specs.Testing.{resolve, resolves, position}
 use Rattle.rules.specs.Writing.{Placed, grow, placed, writes_resolve, write_all, cut_to, rewritten}
@@ -29,7 +29,7 @@ use Rattle.rules.proofs.WriteLaws.{length-write}
 use Rattle.rules.proofs.OffsetLaws.{some_is, end-position, write-end}
 use Rattle.rules.proofs.OutcomeLaws.{outcome_formed, answered-number}
 use Rattle.rules.proofs.ReplyLaws.{done-replies}
-use Rattle.rules.proofs.Demand1.{replied_formed, done-valid, done-container}
+use Rattle.rules.proofs.Demand1.{replied_formed, done_valid, done_container}
 
 -- ---- row 4 is that some position is missing
 pub positions_resolve : (ws : List Write) (n : ℕ) → every is_some (write_positions ws n) ≡ writes_resolve ws n
@@ -131,10 +131,10 @@ write-ends (w ∷ ws) d h =
     (write-ends ws (d ++ w.bytes) h.1 ∙ append_assoc d w.bytes (join (map (λ x. x.bytes) ws)))
 
 module _ (c q r : List ℕ) where
-  formed-fours : well_formed c ≡ true →
+  formed_fours : well_formed c ≡ true →
       ((answered c q r).number ≡ 4) ↔ (every is_some (positions_of (request_of q) (length (data_of c))) ≡ false)
   unfolding parts_of
-  formed-fours w =
+  formed_fours w =
       let e : (answered c q r).number ≡ first_row (request_rows (parts_of c) (request_of q) (length r)) =
       answered-number c q r ∙ outcome_formed c q (length r) w in
       let f = fours (parts_of c) (request_of q) (length r) in
@@ -158,17 +158,17 @@ module _ (c q r : List ℕ) where
     done-bytes : data_of (container_after c q r) ≡ rewritten ws cut (data_of c)
     unfolding parts_of after_of maybe after with_bytes
     done-bytes =
-        ap (λ (p : Parts). p.bytes) (ap parts_of (done-container c q r done) ∙ parts-encode _ (done-valid c q r done))
+        ap (λ (p : Parts). p.bytes) (ap parts_of (done_container c q r done) ∙ parts_encode _ (done_valid c q r done))
         ∙ rw f
 
 -- OFFSETS
 pub offsets_resolve : (c q r : List ℕ) → OffsetsResolve c q r
 unfolding rewritten cut_to
 offsets_resolve c q r = record {
-  four = formed-fours c q r;
+  four = formed_fours c q r;
   alone = λ b s v w e.
-      let x = formed-fours b q s v in
-      let y = formed-fours c q r w in
+      let x = formed_fours b q s v in
+      let y = formed_fours c q r w in
       ((λ a. y.1 (rw e at (x.0 a))), (λ a. x.1 (rw e (y.0 a))));
   written = λ k ts ws cut f e ps g h.
       let n : ℕ = length (data_of c) in

@@ -12,7 +12,7 @@ use Rattle.format.specs.Container.{length_allowed, well_formed}
 use Rattle.format.specs.Parts.{Parts, used, parts_of, encode}
 use Rattle.format.specs.Claims.{Valid}
 use Rattle.octets.proofs.ListLaws.{both}
-use Rattle.format.proofs.RoundTrip.{encode-formed, parts-encode}
+use Rattle.format.proofs.RoundTrip.{encode_formed, parts_encode}
 use Rattle.rules.specs.Requests.{Request, test_write, add, renew, cancel, read, request_of}
 use Rattle.rules.specs.Outcomes.{with_bytes, with_leases, after, after_of, rows, room_rows, request_rows, outcome}
 use Rattle.rules.specs.Outcomes.{answer_to, answered, replies, reply_bytes, reply_after, container_after}
@@ -34,7 +34,7 @@ outcome_formed c q n w = rw (formed_length c w, w)
 
 pub outcome-encode : (p : Parts) (q : List ℕ) (n : ℕ) → Valid p → outcome (encode p) q n
     ≡ first_row (request_rows p (request_of q) n)
-outcome-encode p q n v = outcome_formed (encode p) q n (encode-formed p v) ∙ rw (parts-encode p v)
+outcome-encode p q n v = outcome_formed (encode p) q n (encode_formed p v) ∙ rw (parts_encode p v)
 
 -- the answer record holds the outcome's number
 pub answer-number : (n : ℕ) (p : Parts) (r : Option Request) → (answer_to n p r).number ≡ n
@@ -68,7 +68,7 @@ left_parts p q n = cond (eqb (first_row (request_rows p (request_of q) n)) 0) (a
 
 pub left_encode : (p : Parts) (q r : List ℕ) → Valid p → container_after (encode p) q r ≡ encode (left_parts p q (length r))
 unfolding left_parts container_after
-left_encode p q r v = rw (outcome-encode p q (length r) v, parts-encode p v)
+left_encode p q r v = rw (outcome-encode p q (length r) v, parts_encode p v)
     (go (eqb (first_row (request_rows p (request_of q) (length r))) 0))
   where
     go : (b : Bool) → cond b (encode (after_of p (request_of q))) (encode p) ≡ encode (cond b (after_of p (request_of q)) p)

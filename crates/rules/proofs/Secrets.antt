@@ -33,26 +33,26 @@ module _ (b c q r : List ℕ) (s : SamePublic b c) where
   read_by k (renews i o e) = absurd (omega arith)
   read_by k (cancels i o e) = absurd (omega arith)
 
-  write-by : kind_of q ≡ 1 →
+  write_by : kind_of q ≡ 1 →
       same (take secret_size (drop secret_at q)) (enabler_of b) ≡ same (take secret_size (drop secret_at q)) (enabler_of c) →
       ((answered b q r).number ≡ 11 → ⊥) → ((answered c q r).number ≡ 11 → ⊥) → Kinds q → SameReply b c q r
   unfolding early_rows early rows admit_rows find_rows reply_to reply_bytes maybe counted answer_to parts_of
       test_write_of
-  write-by k f hb hc (broken e) =
+  write_by k f hb hc (broken e) =
       same_reply b c q r (early (parts_of c) (request_of q) (length r)) (roomy b q r s.formed_b hb ∙ rw e refl)
       (roomy c q r s.formed_c hc) (rw e refl) (rw e refl)
-  write-by k f hb hc (tests i l o e) =
+  write_by k f hb hc (tests i l o e) =
       same_reply b c q r (early (parts_of c) (request_of q) (length r))
       (roomy b q r s.formed_b hb ∙ rw (e, s.bytes, f) refl)
       (roomy c q r s.formed_c hc) (rw (e, s.bytes, s.node) refl) (rw (e, s.bytes) refl)
-  write-by k f hb hc (adds i o e) = absurd (omega arith)
-  write-by k f hb hc (renews i o e) = absurd (omega arith)
-  write-by k f hb hc (cancels i o e) = absurd (omega arith)
-  write-by k f hb hc (reads i o e) = absurd (omega arith)
+  write_by k f hb hc (adds i o e) = absurd (omega arith)
+  write_by k f hb hc (renews i o e) = absurd (omega arith)
+  write_by k f hb hc (cancels i o e) = absurd (omega arith)
+  write_by k f hb hc (reads i o e) = absurd (omega arith)
 
 -- SECRETS stay in
 pub secrets : (b c q r : List ℕ) → Secrets b c q r
 secrets b c q r = record {
   of_read = λ s k. read_by b c q r s k (kinds q);
-  of_write = λ s k f hb hc. write-by b c q r s k f hb hc (kinds q);
+  of_write = λ s k f hb hc. write_by b c q r s k f hb hc (kinds q);
 }

@@ -31,7 +31,7 @@ use Rattle.rules.proofs.OutcomeLaws.{outcome_formed, answered-number}
 use Rattle.rules.proofs.ReplyLaws.{done-replies}
 use Rattle.rules.proofs.Demand1.{replied_formed, reads_reply}
 use Rattle.rules.proofs.NumberLaws.{done_unbroken}
-use Rattle.rules.proofs.OffsetLaws.{all_named, named-all}
+use Rattle.rules.proofs.OffsetLaws.{all_named, named_all}
 
 -- ---- the rows of a read
 -- Whether every offset of the reads resolves on the data of c.
@@ -83,7 +83,7 @@ module _ (c q r : List ℕ) where
   unfolding first_row
   sevens rs w f o =
       read-outcome c q (length r) rs w f
-      ∙ rw (named-all (λ (x : Read). x.offset) rs (length (data_of c)) o)
+      ∙ rw (named_all (λ (x : Read). x.offset) rs (length (data_of c)) o)
 
   read_done : AcceptsRead c q (length r) → outcome c q (length r) ≡ 0
   read_done a = sevens a.reads a.formed a.format a.offsets ∙ rw (le-ltb _ _ a.reply_fits)
@@ -100,7 +100,7 @@ module _ (c q r : List ℕ) where
       let at : Read → ℤ = λ x. x.offset in
       let s : ℕ = length (data_of c) in
       let o = read-outcome c q (length r) rs w f in (
-        (λ e h. false≢true (sym (four _ (ltb (length r) (reply_size c rs)) (sym o ∙ e)) ∙ named-all at rs s h)),
+        (λ e h. false≢true (sym (four _ (ltb (length r) (reply_size c rs)) (sym o ∙ e)) ∙ named_all at rs s h)),
         (λ h. o ∙ rw (by_refuting (all_resolve c rs) (λ e. h (all_named at rs s e)))),
       )
 
@@ -109,8 +109,8 @@ module _ (c q r : List ℕ) where
   seven false e = absurd (omega arith)
 
   -- SHORT READS
-  pub short-reads : ShortReads c q r
-  short-reads =
+  pub short_reads : ShortReads c q r
+  short_reads =
       let n = answered-number c q r in
       record {
         exactly = λ k. ((λ e. done-read k (sym n ∙ e)), (λ a. n ∙ read_done a));
@@ -134,9 +134,9 @@ module _ (d : List ℕ) (x : Read) where
     at = rw f
 
   -- SHORT PIECES
-  pub short-piece : ShortPiece d x
+  pub short_piece : ShortPiece d x
   unfolding test_piece read_piece
-  short-piece = record {
+  short_piece = record {
     part = λ o f.
         rw (at o f, sym (drop-drop x.count o d), take-append-drop x.count (drop o d)) (take-append-drop o d);
     inside = λ o f h. ap length (at o f) ∙ omega (arith, length-take x.count (drop o d), length-drop o d);

@@ -14,7 +14,7 @@ use Rattle.octets.specs.Rows.{first_row}
 use Rattle.octets.proofs.RowLaws.{rows_first, rows_second}
 use Rattle.format.specs.Layout.{count_at}
 use Rattle.format.specs.Parts.{Parts, count_in, used, parts_of}
-use Rattle.format.proofs.RoundTrip.{parts_count, count-encode, node-encode, enabler-encode, data-encode, leases-encode}
+use Rattle.format.proofs.RoundTrip.{parts_count, count_encode, node-encode, enabler-encode, data_encode, leases_encode}
 use Rattle.rules.specs.Requests.{Request, test_write, add, renew, cancel, read, request_of, kind_of}
 use Rattle.rules.specs.Outcomes.{with_bytes, with_leases, after, after_of, rows, admit_rows, find_rows, room_rows}
 use Rattle.rules.specs.Outcomes.{request_rows, reply_to, reply_bytes, counted, answer_to, answered, outcome}
@@ -26,7 +26,7 @@ use Rattle.rules.proofs.RequestLaws.{Kinds, broken, tests, adds, renews, cancels
 use Rattle.rules.proofs.OutcomeLaws.{outcome_formed, answered-number, early_rows, early, roomy, same_reply}
 use Rattle.rules.proofs.NumberLaws.{first_row_among}
 use Rattle.rules.proofs.ReplyLaws.{done-replies}
-use Rattle.rules.proofs.Demand1.{demand-1, replied_formed, done-valid, done-container, refused-container}
+use Rattle.rules.proofs.Demand1.{demand_1, replied_formed, done_valid, done_container, refused_container}
 
 -- ---- parts that differ at most in slack and buffer length
 record Alike (p o : Parts) : Type 0 where
@@ -36,46 +36,46 @@ record Alike (p o : Parts) : Type 0 where
   leases : p.leases ≡ o.leases
 
 module _ (p o : Parts) (a : Alike p o) where
-  early-alike : (r : Option Request) (n : ℕ) → early p r n ≡ early o r n
+  early_alike : (r : Option Request) (n : ℕ) → early p r n ≡ early o r n
   unfolding early early_rows rows admit_rows find_rows reply_to
-  early-alike none n = refl
-  early-alike (some (test_write k ts ws cut)) n = rw (a.bytes, a.enabler)
-  early-alike (some (add r)) n = rw a.leases
-  early-alike (some (renew t x)) n = rw a.leases
-  early-alike (some (cancel t)) n = rw a.leases
-  early-alike (some (read rs)) n = rw a.bytes
+  early_alike none n = refl
+  early_alike (some (test_write k ts ws cut)) n = rw (a.bytes, a.enabler)
+  early_alike (some (add r)) n = rw a.leases
+  early_alike (some (renew t x)) n = rw a.leases
+  early_alike (some (cancel t)) n = rw a.leases
+  early_alike (some (read rs)) n = rw a.bytes
 
-  answer-alike : (r : Option Request) (n : ℕ) → answer_to n p r ≡ answer_to n o r
+  answer_alike : (r : Option Request) (n : ℕ) → answer_to n p r ≡ answer_to n o r
   unfolding answer_to counted after with_leases reply_to
-  answer-alike none n = refl
-  answer-alike (some (test_write k ts ws cut)) n = rw (a.bytes, a.node)
-  answer-alike (some (add r)) n = rw (a.leases, a.node)
-  answer-alike (some (renew t x)) n = rw (a.leases, a.node)
-  answer-alike (some (cancel t)) n = rw (a.leases, a.node)
-  answer-alike (some (read rs)) n = rw (a.bytes, a.node)
+  answer_alike none n = refl
+  answer_alike (some (test_write k ts ws cut)) n = rw (a.bytes, a.node)
+  answer_alike (some (add r)) n = rw (a.leases, a.node)
+  answer_alike (some (renew t x)) n = rw (a.leases, a.node)
+  answer_alike (some (cancel t)) n = rw (a.leases, a.node)
+  answer_alike (some (read rs)) n = rw (a.bytes, a.node)
 
-  reply-alike : (r : Option Request) → reply_bytes p r ≡ reply_bytes o r
+  reply_alike : (r : Option Request) → reply_bytes p r ≡ reply_bytes o r
   unfolding reply_bytes maybe reply_to
-  reply-alike none = refl
-  reply-alike (some (test_write k ts ws cut)) = rw a.bytes
-  reply-alike (some (add r)) = refl
-  reply-alike (some (renew t x)) = refl
-  reply-alike (some (cancel t)) = refl
-  reply-alike (some (read rs)) = rw a.bytes
+  reply_alike none = refl
+  reply_alike (some (test_write k ts ws cut)) = rw a.bytes
+  reply_alike (some (add r)) = refl
+  reply_alike (some (renew t x)) = refl
+  reply_alike (some (cancel t)) = refl
+  reply_alike (some (read rs)) = rw a.bytes
 
-  with-leases : (ls ms : List (List ℕ)) → ls ≡ ms → Alike (with_leases p ls) (with_leases o ms)
+  with_leases_lem : (ls ms : List (List ℕ)) → ls ≡ ms → Alike (with_leases p ls) (with_leases o ms)
   unfolding with_leases
-  with-leases ls ms e = record { node = a.node; enabler = a.enabler; bytes = a.bytes; leases = e }
+  with_leases_lem ls ms e = record { node = a.node; enabler = a.enabler; bytes = a.bytes; leases = e }
 
-  after-alike : (r : Option Request) → Alike (after_of p r) (after_of o r)
+  after_alike : (r : Option Request) → Alike (after_of p r) (after_of o r)
   unfolding after_of maybe after with_bytes
-  after-alike none = a
-  after-alike (some (test_write k ts ws cut)) =
+  after_alike none = a
+  after_alike (some (test_write k ts ws cut)) =
       record { node = a.node; enabler = a.enabler; bytes = rw a.bytes; leases = a.leases }
-  after-alike (some (add r)) = with-leases _ _ (rw a.leases)
-  after-alike (some (renew t x)) = with-leases _ _ (rw a.leases)
-  after-alike (some (cancel t)) = with-leases _ _ (rw a.leases)
-  after-alike (some (read rs)) = a
+  after_alike (some (add r)) = with_leases_lem _ _ (rw a.leases)
+  after_alike (some (renew t x)) = with_leases_lem _ _ (rw a.leases)
+  after_alike (some (cancel t)) = with_leases_lem _ _ (rw a.leases)
+  after_alike (some (read rs)) = a
 
 -- ---- 'no room' comes last
 -- no earlier row has its number
@@ -125,60 +125,60 @@ late_among p (some r) n e = rw (rows_second (rows p r n) (room_rows p r) (rows_n
 
 -- ---- two containers
 module _ (b c q r : List ℕ) (s : SameButSlack b c) where
-  parts-alike : Alike (parts_of b) (parts_of c)
+  parts_alike : Alike (parts_of b) (parts_of c)
   unfolding parts_of
-  parts-alike = record { node = s.node; enabler = s.enabler; bytes = s.bytes; leases = s.leases }
+  parts_alike = record { node = s.node; enabler = s.enabler; bytes = s.bytes; leases = s.leases }
 
-  number-alike : early (parts_of b) (request_of q) (length r) ≡ early (parts_of c) (request_of q) (length r)
-  number-alike = early-alike (parts_of b) (parts_of c) parts-alike (request_of q) (length r)
+  number_alike : early (parts_of b) (request_of q) (length r) ≡ early (parts_of c) (request_of q) (length r)
+  number_alike = early_alike (parts_of b) (parts_of c) parts_alike (request_of q) (length r)
 
-  unseen-room : (answered b q r).number ≡ 11 → Among (answered c q r).number (0 ∷ 11 ∷ [])
-  unseen-room e =
+  unseen_room : (answered b q r).number ≡ 11 → Among (answered c q r).number (0 ∷ 11 ∷ [])
+  unseen_room e =
       let f = sym (outcome_formed b q (length r) s.formed_b) ∙ sym (answered-number b q r) ∙ e in
       rw (answered-number c q r, outcome_formed c q (length r) s.formed_c)
       (late_among (parts_of c) (request_of q) (length r)
-      (sym number-alike ∙ late_clear (parts_of b) (request_of q) (length r) f))
+      (sym number_alike ∙ late_clear (parts_of b) (request_of q) (length r) f))
 
   module _ (hb : (answered b q r).number ≡ 11 → ⊥) (hc : (answered c q r).number ≡ 11 → ⊥) where
     same_number : outcome b q (length r) ≡ outcome c q (length r)
-    same_number = roomy b q r s.formed_b hb ∙ number-alike ∙ sym (roomy c q r s.formed_c hc)
+    same_number = roomy b q r s.formed_b hb ∙ number_alike ∙ sym (roomy c q r s.formed_c hc)
 
     unseen : SameReply b c q r
     unseen =
         same_reply b c q r (outcome c q (length r)) same_number refl
-        (answer-alike (parts_of b) (parts_of c) parts-alike (request_of q) (outcome c q (length r)))
-        (reply-alike (parts_of b) (parts_of c) parts-alike (request_of q))
+        (answer_alike (parts_of b) (parts_of c) parts_alike (request_of q) (outcome c q (length r)))
+        (reply_alike (parts_of b) (parts_of c) parts_alike (request_of q))
 
-    unseen-again : SameButSlack (container_after b q r) (container_after c q r)
-    unseen-again = go (eqb (outcome c q (length r)) 0) refl
+    unseen_again : SameButSlack (container_after b q r) (container_after c q r)
+    unseen_again = go (eqb (outcome c q (length r)) 0) refl
       where
         go : (t : Bool) → eqb (outcome c q (length r)) 0 ≡ t
             → SameButSlack (container_after b q r) (container_after c q r)
         go true z =
             let ec : outcome c q (length r) ≡ 0 = eqb-true _ _ z in
             let eb : outcome b q (length r) ≡ 0 = same_number ∙ ec in
-            let vb = done-valid b q r eb in
-            let vc = done-valid c q r ec in
-            let a = after-alike (parts_of b) (parts_of c) parts-alike (request_of q) in
+            let vb = done_valid b q r eb in
+            let vc = done_valid c q r ec in
+            let a = after_alike (parts_of b) (parts_of c) parts_alike (request_of q) in
             record {
-              formed_b = (demand-1 b q r).stays_formed s.formed_b;
-              formed_c = (demand-1 c q r).stays_formed s.formed_c;
-              node = rw (done-container b q r eb, done-container c q r ec)
+              formed_b = (demand_1 b q r).stays_formed s.formed_b;
+              formed_c = (demand_1 c q r).stays_formed s.formed_c;
+              node = rw (done_container b q r eb, done_container c q r ec)
                   (node-encode _ vb ∙ a.node ∙ sym (node-encode _ vc));
-              enabler = rw (done-container b q r eb, done-container c q r ec)
+              enabler = rw (done_container b q r eb, done_container c q r ec)
                   (enabler-encode _ vb ∙ a.enabler ∙ sym (enabler-encode _ vc));
-              bytes = rw (done-container b q r eb, done-container c q r ec)
-                  (data-encode _ vb ∙ a.bytes ∙ sym (data-encode _ vc));
-              leases = rw (done-container b q r eb, done-container c q r ec)
-                  (leases-encode _ vb ∙ a.leases ∙ sym (leases-encode _ vc));
+              bytes = rw (done_container b q r eb, done_container c q r ec)
+                  (data_encode _ vb ∙ a.bytes ∙ sym (data_encode _ vc));
+              leases = rw (done_container b q r eb, done_container c q r ec)
+                  (leases_encode _ vb ∙ a.leases ∙ sym (leases_encode _ vc));
             }
         go false z =
             let nc : outcome c q (length r) ≡ 0 → ⊥ = eqb-false _ _ z in
-            rw (refused-container b q r (λ e. nc (sym same_number ∙ e)), refused-container c q r nc) s
+            rw (refused_container b q r (λ e. nc (sym same_number ∙ e)), refused_container c q r nc) s
 
 -- SLACK IS NOT SEEN
 pub slack_unseen : (b c q r : List ℕ) → SlackUnseen b c q r
-slack_unseen b c q r = record { alike = unseen b c q r; again = unseen-again b c q r; no_room_holds = unseen-room b c q r }
+slack_unseen b c q r = record { alike = unseen b c q r; again = unseen_again b c q r; no_room_holds = unseen_room b c q r }
 
 -- ---- the count
 after_count : (p : Parts) (q : List ℕ) → (kind_of q ≡ 1 → ⊥) → Kinds q → count_in (after_of p (request_of q)) ≡ count_in p
@@ -198,6 +198,6 @@ count_stays c q r = record { stays = λ h. go h (eqb (outcome c q (length r)) 0)
         ≡ count_at c
     go h true z =
         let e : outcome c q (length r) ≡ 0 = eqb-true _ _ z in
-        ap count_at (done-container c q r e) ∙ count-encode _ (done-valid c q r e)
+        ap count_at (done_container c q r e) ∙ count_encode _ (done_valid c q r e)
         ∙ after_count (parts_of c) q h (kinds q) ∙ parts_count c (replied_formed c q (length r) (done-replies _ e))
-    go h false z = ap count_at (refused-container c q r (eqb-false _ _ z))
+    go h false z = ap count_at (refused_container c q r (eqb-false _ _ z))

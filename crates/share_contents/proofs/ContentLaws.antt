@@ -53,36 +53,36 @@ same_test a b c d f g = go (eqb c d) refl
     go false e = ne_eqb a b (λ h. eqb-false c d e (f h))
 
 module _ (n t : ℕ) where
-  pub tree-none : n ≡ 0 → eqb t 0 ≡ eqb t (tree_size n)
+  pub tree_none : n ≡ 0 → eqb t 0 ≡ eqb t (tree_size n)
   unfolding tree_size
-  tree-none z = rw (eq-eqb n 0 z)
+  tree_none z = rw (eq-eqb n 0 z)
 
   module _ (h : n ≡ 0 → ⊥) where
     -- 2^d is at least n, which is at least 1.
     enough : (n ≤ power (depth n)) × (0 < n)
     enough = ((depth-least n).0, some_segment n n (λ z. z) h)
 
-    pub tree-ragged : (t % 32 ≡ 0 → ⊥) → eqb t (tree_size n) ≡ false
+    pub tree_ragged : (t % 32 ≡ 0 → ⊥) → eqb t (tree_size n) ≡ false
     unfolding tree_size
-    tree-ragged k = rw (ne_eqb n 0 h) (ne_eqb t _ (λ e. k (omega (arith, e))))
+    tree_ragged k = rw (ne_eqb n 0 h) (ne_eqb t _ (λ e. k (omega (arith, e))))
 
-    pub tree-few : t / 32 < n → eqb t (tree_size n) ≡ false
+    pub tree_few : t / 32 < n → eqb t (tree_size n) ≡ false
     unfolding tree_size
-    tree-few k = let f = enough in rw (ne_eqb n 0 h) (ne_eqb t _ (λ e. omega (arith, e)))
+    tree_few k = let f = enough in rw (ne_eqb n 0 h) (ne_eqb t _ (λ e. omega (arith, e)))
 
-    pub tree-hashes : t % 32 ≡ 0 → eqb (t / 32) (2 * power (depth n) - 1) ≡ eqb t (tree_size n)
+    pub tree_hashes : t % 32 ≡ 0 → eqb (t / 32) (2 * power (depth n) - 1) ≡ eqb t (tree_size n)
     unfolding tree_size
-    tree-hashes k =
+    tree_hashes k =
         rw (ne_eqb n 0 h)
         (same_test (t / 32) (2 * power (depth n) - 1) t (32 * (2 * power (depth n) - 1)) (λ e. omega (arith, e))
         (λ e. omega (arith, e)))
 
 module _ (n k m t : ℕ) where
-  pub salts-few : t / 16 < n → eqb t (blocks_size n k m) ≡ false
+  pub salts_few : t / 16 < n → eqb t (blocks_size n k m) ≡ false
   unfolding blocks_size
-  salts-few h = ne_eqb t _ (λ e. omega (arith, e))
+  salts_few h = ne_eqb t _ (λ e. omega (arith, e))
 
-  pub salts-off : n ≤ t / 16 → eqb (t - 16 * n) (rounded_up m k) ≡ eqb t (blocks_size n k m)
+  pub salts_off : n ≤ t / 16 → eqb (t - 16 * n) (rounded_up m k) ≡ eqb t (blocks_size n k m)
   unfolding blocks_size
-  salts-off h =
+  salts_off h =
       same_test (t - 16 * n) (rounded_up m k) t (16 * n + rounded_up m k) (λ e. omega (arith, e)) (λ e. omega (arith, e))

@@ -60,22 +60,22 @@ in_order_parts (m ∷ ms) a (b ∷ bs) s e l (suc i) h =
 
 -- ---- the test, one part after the other
 module _ (ms bs : List ℕ) (i : ℕ) (h : i < length ms) (k : suc i < length bs) where
-  order-step : in_order (drop i ms) (get_or bs i 0) (drop (i + 1) bs)
+  order_step : in_order (drop i ms) (get_or bs i 0) (drop (i + 1) bs)
       ≡ (leb (get_or bs i 0 + get_or ms i 0) (get_or bs (i + 1) 0)
       && in_order (drop (i + 1) ms) (get_or bs (i + 1) 0) (drop (i + 1 + 1) bs))
   unfolding in_order
-  order-step =
+  order_step =
       let l : i + 1 < length bs = omega arith in
       rw (drop-cons ms i 0 h, drop-cons bs (i + 1) 0 l, add-one i, add-one (suc i))
 
-  pub order-more : get_or bs i 0 + get_or ms i 0 ≤ get_or bs (i + 1) 0
+  pub order_more : get_or bs i 0 + get_or ms i 0 ≤ get_or bs (i + 1) 0
       → in_order (drop i ms) (get_or bs i 0) (drop (i + 1) bs)
       ≡ in_order (drop (i + 1) ms) (get_or bs (i + 1) 0) (drop (i + 1 + 1) bs)
-  order-more l = order-step ∙ rw (le-leb _ _ l)
+  order_more l = order_step ∙ rw (le-leb _ _ l)
 
-  pub order-less : get_or bs (i + 1) 0 < get_or bs i 0 + get_or ms i 0
+  pub order_less : get_or bs (i + 1) 0 < get_or bs i 0 + get_or ms i 0
       → in_order (drop i ms) (get_or bs i 0) (drop (i + 1) bs) ≡ false
-  order-less l = order-step ∙ rw (lt-leb _ _ l)
+  order_less l = order_step ∙ rw (lt-leb _ _ l)
 
 pub order-end : (ms bs : List ℕ) (i a : ℕ) → length ms ≤ i → length bs ≤ i + 1
     → in_order (drop i ms) a (drop (i + 1) bs) ≡ true

@@ -40,17 +40,17 @@ module _ (e : Edition) (bs s : List ℕ) (h : placed_ok e bs ≡ true) (l : get_
   pub placed-order : in_order (least_sizes e) (header_size e) (drop 1 bs) ≡ true
   placed-order = (split e bs h).1
 
-  pub placed-last : last_of (header_size e) (drop 1 bs) ≡ length s
-  placed-last =
+  pub placed_last : last_of (header_size e) (drop 1 bs) ≡ length s
+  placed_last =
       (order-length (least_sizes e) (header_size e) (drop 1 bs) placed-order).1
       ∙ rw (seven e) (ap (λ (l : List ℕ). get_or l 7 0) (sym placed-tail) ∙ l)
 
-  placed-part : (i : ℕ) → i < 7
+  placed_part : (i : ℕ) → i < 7
       → (get_or bs i 0 + get_or (least_sizes e) i 0 ≤ get_or bs (suc i) 0) × (get_or bs (suc i) 0 ≤ length s)
-  placed-part i k =
+  placed_part i k =
       let n = (order-length (least_sizes e) (header_size e) (drop 1 bs) placed-order).0 in
       let q =
-      in_order_parts (least_sizes e) (header_size e) (drop 1 bs) s placed-order placed-last i
+      in_order_parts (least_sizes e) (header_size e) (drop 1 bs) s placed-order placed_last i
       (omega (arith, n, seven e)) in
       let at : (j : ℕ) → get_or bs j 0 ≡ get_or (header_size e ∷ drop 1 bs) j 0 =
       λ j. ap (λ (l : List ℕ). get_or l j 0) placed-tail in
@@ -58,11 +58,11 @@ module _ (e : Edition) (bs s : List ℕ) (h : placed_ok e bs ≡ true) (l : get_
 
   pub placed-inside : PartsInside bs (length s)
   placed-inside i k =
-      let p = placed-part i k in
+      let p = placed_part i k in
       record { rises = rw add-one (omega (arith, p.0)); fits = rw add-one p.1 }
 
   pub placed-least : (i : ℕ) → i < 7 → get_or bs i 0 + get_or (least_sizes e) i 0 ≤ get_or bs (suc i) 0
-  placed-least i k = (placed-part i k).0
+  placed-least i k = (placed_part i k).0
 
 -- ---- boundaries as they come
 pub placed-false : (e : Edition) (bs : List ℕ) → (get_or bs 0 0 ≡ header_size e → ⊥) → placed_ok e bs ≡ false

@@ -48,14 +48,14 @@ module _ (x : Share) (d : List ℕ) where
     inside : 0 + length (encode x) ≤ length d
     inside = let w = writable x (length d) z in omega (arith, encoded, w.room)
 
-    pub done-share : take (written_answer x (length d)).length (space_after x d) ≡ encode x
-    done-share =
+    pub done_share : take (written_answer x (length d)).length (space_after x d) ≡ encode x
+    done_share =
         rw (done-length, done-space)
         (take_at (encode x) (drop (0 + length (encode x)) d) (share_length x) encoded)
 
-    done-behind : drop (written_answer x (length d)).length (space_after x d)
+    done_behind : drop (written_answer x (length d)).length (space_after x d)
         ≡ drop (written_answer x (length d)).length d
-    done-behind =
+    done_behind =
         rw (done-length, done-space)
         (put-beyond 0 (share_length x) (encode x) d (omega arith) (omega (arith, encoded)))
 
@@ -67,7 +67,7 @@ module _ (x : Share) (d : List ℕ) where
     where
       go : (t : Bool) → eqb (write_outcome x (length d)) 0 ≡ t
           → drop (written_answer x (length d)).length (space_after x d) ≡ drop (written_answer x (length d)).length d
-      go true e = done-behind (eqb-true _ _ e)
+      go true e = done_behind (eqb-true _ _ e)
       go false e = rw (refused-space (eqb-false _ _ e))
 
   kept : length (space_after x d) ≡ length d
@@ -84,7 +84,7 @@ demand_1_writer x d =
       number = number_among x (length d);
       refused = refused-space x d;
       no_length = refused-length x d;
-      share = done-share x d;
+      share = done_share x d;
       share_length_holds = λ z. done-length x d z ∙ sym (encoded x d z);
       behind = behind x d;
       space_length = kept x d;

@@ -23,11 +23,11 @@ use Rattle.share_numbers.specs.Order.{placed_ok}
 use Rattle.share_contents.specs.Contents.{chain_ok, rounded_up, segments, tree_size, tree_ok}
 use Rattle.share_contents.specs.Contents.{blocks_size, blocks_ok, content_rows}
 use Rattle.share_format.proofs.HeaderLaws.{fits_64, offset_facts}
-use Rattle.share_contents.proofs.ContentLaws.{tree-few}
+use Rattle.share_contents.proofs.ContentLaws.{tree_few}
 use Rattle.share_rules.specs.Writing.{sizes_ok, segment_fits, bounds_fit, rows_of, write_rows, write_outcome}
 use Rattle.share_rules.specs.Writing.{written_answer, space_after}
 use Rattle.share_rules.specs.Edges.{segmented, into, result_of, refused, WriterEdgesHold}
-use Rattle.share_rules.proofs.WritingLaws.{rows-25}
+use Rattle.share_rules.proofs.WritingLaws.{rows_25}
 
 -- The signature stands behind the key.
 narrow : (x : Sdmf) → 4294967189 ≤ length x.key
@@ -42,14 +42,14 @@ unfolding sizes_ok segment_fits segment_ok bounds_fit write_outcome write_rows s
 far_offset x n hr hs room coding segment key =
     let m : ℕ = least_multiple x.required x.data_length in
     let bs : List ℕ = packed (header_size false) (map length (part_list (sdmf x))) in
-    rows-25 false x.sequence x.root x.iv x.required x.total m x.data_length
+    rows_25 false x.sequence x.root x.iv x.required x.total m x.data_length
     (map length (part_list (sdmf x))) x.chain x.tree x.share_data n
     (rw (eq-eqb _ _ hr, eq-eqb _ _ hs)) room coding (rw (fits_64 m segment, eq-eqb m m refl))
     (by_refuting _ (λ e. narrow x key (both (placed_ok false bs) (offsets_fit false bs) e).1))
 
 -- A tree with fewer hashes than there are segments.
 small_tree : eqb 32 (tree_size 6148914691236517205) ≡ false
-small_tree = tree-few 6148914691236517205 32 (λ z. omega (arith, z)) (omega arith)
+small_tree = tree_few 6148914691236517205 32 (λ z. omega (arith, z)) (omega arith)
 
 many-segments : result_of (into (segmented 3 3 18446744073709551615 20 32) 405) ≡ refused 27
 unfolding any_of sum number_after number number_at digits fits first_row join in_order packed each_fits told_of offsets_fit

@@ -35,7 +35,7 @@ use Rattle.share_format.proofs.BoundLaws.{last_of}
 use Rattle.share_format.proofs.HeaderLaws.{fits_64, offsets_fit_lem, sizes_sum, numbers_again, numbers_fit}
 use Rattle.share_format.proofs.PackedLaws.{parts_between, between-packed, between_join}
 use Rattle.share_judging.proofs.JudgingLaws.{order_facts}
-use Rattle.share_numbers.proofs.OrderLaws.{placed-tail, placed-order, placed-last}
+use Rattle.share_numbers.proofs.OrderLaws.{placed-tail, placed-order, placed_last}
 use Rattle.share_rules.specs.Claims.{Writable}
 use Rattle.share_rules.specs.Writing.{sizes_ok, segment_fits, bounds_fit}
 use Rattle.share_rules.proofs.WritingLaws.{share_joined, done, writable}
@@ -220,37 +220,37 @@ module _ (e : Edition) (s : List ℕ) (f : Accepted e s) where
   order = placed-order e bs s placed ends
 
   last : last_of (header_size e) (drop 1 bs) ≡ length s
-  last = placed-last e bs s placed ends
+  last = placed_last e bs s placed ends
 
   parts_are : part_list x ≡ parts_between (header_size e) (drop 1 bs) s
   parts_are =
       let h : get_or bs 0 0 ≡ header_size e = ap (λ (l : List ℕ). get_or l 0 0) tail in
       parts_read e s ∙ ap (λ (a : ℕ). parts_between a (drop 1 bs) s) h
 
-  places-are : places_of x ≡ bs
+  places_are : places_of x ≡ bs
   unfolding places_of
-  places-are =
+  places_are =
       rw (r.edition, parts_are) (between-packed (least_sizes e) (header_size e) (drop 1 bs) s order last ∙ sym tail)
 
-  parts-joined : join (part_list x) ≡ drop (header_size e) s
-  parts-joined = ap join parts_are ∙ between_join (least_sizes e) (header_size e) (drop 1 bs) s order last
+  parts_joined : join (part_list x) ≡ drop (header_size e) s
+  parts_joined = ap join parts_are ∙ between_join (least_sizes e) (header_size e) (drop 1 bs) s order last
 
-  size-again : share_length x ≡ length s
-  size-again = rw (share_joined x, r.edition, parts-joined, length-drop) (omega (arith, f.long))
+  size_again : share_length x ≡ length s
+  size_again = rw (share_joined x, r.edition, parts_joined, length-drop) (omega (arith, f.long))
 
-  segment-is : segment_in x ≡ segment_size e s
-  segment-is = segment_read e bs s f.segment
+  segment_is : segment_in x ≡ segment_size e s
+  segment_is = segment_read e bs s f.segment
 
   offsets_are : Octets s
       → drop (offsets_at e) s ≡ join (offset_fields (edition_in x) (places_of x)) ++ drop (header_size e) s
   unfolding offset_fields offsets_of
   offsets_are o =
-      rw (r.edition, places-are, told-read e s, ← sizes_sum e)
+      rw (r.edition, places_are, told-read e s, ← sizes_sum e)
       (numbers_again s (offsets_at e) (offset_sizes e) o (omega (arith, sizes_sum e, f.long)))
 
-  numbers-are : Octets s → s ≡ join (numbers x) ++ drop (offsets_at e) s
+  numbers_are : Octets s → s ≡ join (numbers x) ++ drop (offsets_at e) s
   unfolding number_fields spread
-  numbers-are o =
+  numbers_are o =
       let number : (a : ℕ) → a + number_size ≤ header_size e
       → take number_size (drop a s) ≡ digits number_size (number_at number_size a s) =
       λ a h. digits_at s number_size a (number_at number_size a s) (omega (arith, f.long)) o refl in
@@ -265,56 +265,56 @@ module _ (e : Edition) (s : List ℕ) (f : Accepted e s) where
       let i = field_then s iv_at (iv_size e) (required_at e) _ _ refl refl k in
       let h = field_then s root_at hash_size iv_at _ _ refl refl i in
       let q = field_then s sequence_at number_size root_at _ _ refl (number sequence_at (omega arith)) h in
-      rw (r.edition, r.sequence, r.root, r.iv, r.required, r.total, segment-is, r.length)
+      rw (r.edition, r.sequence, r.root, r.iv, r.required, r.total, segment_is, r.length)
       (field_then s 0 1 sequence_at _ _ refl first q ∙ sym (join-spread _ (drop (offsets_at e) s)))
 
-  bytes-again : Octets s → encode x ≡ s
+  bytes_again : Octets s → encode x ≡ s
   unfolding encode
-  bytes-again o =
-      ap (λ (l : List ℕ). join (numbers x) ++ (join (offset_fields (edition_in x) (places_of x)) ++ l)) parts-joined
+  bytes_again o =
+      ap (λ (l : List ℕ). join (numbers x) ++ (join (offset_fields (edition_in x) (places_of x)) ++ l)) parts_joined
       ∙ ap (λ (l : List ℕ). join (numbers x) ++ l) (sym (offsets_are o))
-      ∙ sym (numbers-are o)
+      ∙ sym (numbers_are o)
 
   -- ---- the writer's rows
-  sizes-again : sizes_ok (edition_in x) (root_in x) (iv_in x) ≡ true
+  sizes_again : sizes_ok (edition_in x) (root_in x) (iv_in x) ≡ true
   unfolding sizes_ok
-  sizes-again =
+  sizes_again =
       let h : length (root s) ≡ hash_size =
       length-take-le hash_size (drop root_at s) (rw length-drop (omega (arith, f.long))) in
       let i : length (iv e s) ≡ iv_size e =
       length-take-le (iv_size e) (drop iv_at s) (rw length-drop (omega (arith, f.long))) in
       rw (r.edition, r.root, r.iv, eq-eqb _ _ h, eq-eqb _ _ i)
 
-  fit-again : Octets s → offsets_fit (edition_in x) (places_of x) ≡ true
+  fit_again : Octets s → offsets_fit (edition_in x) (places_of x) ≡ true
   unfolding offsets_of
-  fit-again o =
-      rw (r.edition, places-are)
+  fit_again o =
+      rw (r.edition, places_are)
       (offsets_fit_lem e bs (rw (told-read e s) (numbers_fit s (offsets_at e) (offset_sizes e) o)))
 
-  writable-again : (n : ℕ) → Octets s → length s ≤ n → Writable x n
+  writable_again : (n : ℕ) → Octets s → length s ≤ n → Writable x n
   unfolding segment_fits bounds_fit laid_rows
-  writable-again n o h =
+  writable_again n o h =
       writable x n (done x n (record {
-        sizes = sizes-again;
-        room = rw size-again h;
+        sizes = sizes_again;
+        room = rw size_again h;
         coding = rw (r.required, r.total) f.coding;
         segment =
             rw (
               r.edition,
-              segment-is,
+              segment_is,
               r.required,
               r.length,
               fits_64 (segment_size e s) (number_at-below number_size (segment_at e) s o),
             )
             f.segment;
-        placed = rw (fit-again o, r.edition, places-are, placed);
+        placed = rw (fit_again o, r.edition, places_are, placed);
         content =
             rw (
               r.edition,
               r.sequence,
               r.required,
               r.total,
-              segment-is,
+              segment_is,
               r.length,
               r.chain,
               r.tree,
@@ -330,4 +330,4 @@ unfolding share_of
 read_again s n o z h =
     let e : Edition = edition_of s in
     let f = accepted s z in
-    (writable-again e s f n o h, bytes-again e s f o, size-again e s f)
+    (writable_again e s f n o h, bytes_again e s f o, size_again e s f)

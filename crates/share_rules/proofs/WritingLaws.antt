@@ -39,34 +39,34 @@ module _ (e : Edition) (sequence : ℕ) (root iv : List ℕ) (k n segment m : �
   abbrev outcome : ℕ
   outcome = first_row (rows_of e sequence root iv k n segment m sizes chain tree share_data space)
 
-  pub rows-3 : sizes_ok e root iv ≡ false → outcome ≡ 3
+  pub rows_3 : sizes_ok e root iv ≡ false → outcome ≡ 3
   unfolding rows_of first_row
-  rows-3 h = rw h
+  rows_3 h = rw h
 
   module _ (sized : sizes_ok e root iv ≡ true) where
-    pub rows-7 : space < header_size e + sum sizes → outcome ≡ 7
+    pub rows_7 : space < header_size e + sum sizes → outcome ≡ 7
     unfolding rows_of first_row
-    rows-7 h = rw (sized, lt-ltb space (header_size e + sum sizes) h)
+    rows_7 h = rw (sized, lt-ltb space (header_size e + sum sizes) h)
 
     module _ (room : header_size e + sum sizes ≤ space) where
-      pub rows-23 : coding_ok k n ≡ false → outcome ≡ 23
+      pub rows_23 : coding_ok k n ≡ false → outcome ≡ 23
       unfolding rows_of first_row
-      rows-23 h = rw (sized, le-ltb space (header_size e + sum sizes) room, h)
+      rows_23 h = rw (sized, le-ltb space (header_size e + sum sizes) room, h)
 
       module _ (coding : coding_ok k n ≡ true) where
-        pub rows-24 : segment_fits e segment k m ≡ false → outcome ≡ 24
+        pub rows_24 : segment_fits e segment k m ≡ false → outcome ≡ 24
         unfolding rows_of first_row
-        rows-24 h = rw (sized, le-ltb space (header_size e + sum sizes) room, coding, h)
+        rows_24 h = rw (sized, le-ltb space (header_size e + sum sizes) room, coding, h)
 
         module _ (fit : segment_fits e segment k m ≡ true) where
-          pub rows-25 : bounds_fit e (packed (header_size e) sizes) ≡ false → outcome ≡ 25
+          pub rows_25 : bounds_fit e (packed (header_size e) sizes) ≡ false → outcome ≡ 25
           unfolding rows_of first_row
-          rows-25 h = rw (sized, le-ltb space (header_size e + sum sizes) room, coding, fit, h)
+          rows_25 h = rw (sized, le-ltb space (header_size e + sum sizes) room, coding, fit, h)
 
-          pub rows-rest : bounds_fit e (packed (header_size e) sizes) ≡ true
+          pub rows_rest : bounds_fit e (packed (header_size e) sizes) ≡ true
               → outcome ≡ first_row (content_rows e sequence k n segment m chain tree share_data)
           unfolding rows_of first_row
-          rows-rest h = rw (sized, le-ltb space (header_size e + sum sizes) room, coding, fit, h)
+          rows_rest h = rw (sized, le-ltb space (header_size e + sum sizes) room, coding, fit, h)
 
 -- ---- sizes and places
 pub share_joined : (x : Share) → share_length x ≡ header_size (edition_in x) + length (join (part_list x))
@@ -203,7 +203,7 @@ passed x n z =
 pub done : (x : Share) (n : ℕ) → Passed x n → write_outcome x n ≡ 0
 unfolding write_outcome write_rows share_length places_of
 done x n p =
-    rows-rest (edition_in x) (sequence_in x) (root_in x) (iv_in x) (required_in x) (total_in x) (segment_in x) (length_in x)
+    rows_rest (edition_in x) (sequence_in x) (root_in x) (iv_in x) (required_in x) (total_in x) (segment_in x) (length_in x)
     (map length (part_list x)) (chain_in x) (tree_in x) (share_data_in x) n p.sizes p.room p.coding p.segment
     p.placed
     ∙ p.content

@@ -106,8 +106,8 @@ module _ (x : Share) (r : length (root_in x) ≡ hash_size) (t : length (iv_in x
   unfolding part_of number_fields
   version-back = byte_of (encode x) 0 (version_of e) (field_is 0 (omega arith))
 
-  pub edition-back : edition_of (encode x) ≡ e
-  edition-back = edition_is e (encode x) version-back
+  pub edition_back : edition_of (encode x) ≡ e
+  edition_back = edition_is e (encode x) version-back
 
   root-back : root (encode x) ≡ root_in x
   unfolding part_of number_fields
@@ -133,28 +133,28 @@ module _ (x : Share) (r : length (root_in x) ≡ hash_size) (t : length (iv_in x
   unfolding part_of number_fields
   sequence-back h = number-back (encode x) number_size sequence_at (sequence_in x) (field_is 1 (omega arith)) h
 
-  segment-back : Fits64 (segment_in x) → segment_size e (encode x) ≡ segment_in x
+  segment_back : Fits64 (segment_in x) → segment_size e (encode x) ≡ segment_in x
   unfolding part_of number_fields
-  segment-back h =
+  segment_back h =
       let k : length_at e - segment_at e ≡ number_size = omega arith in
       number-back (encode x) number_size (segment_at e) (segment_in x) (field_of 6 number_size (omega arith) k) h
 
-  data-back : Fits64 (length_in x) → data_length e (encode x) ≡ length_in x
+  data_back : Fits64 (length_in x) → data_length e (encode x) ≡ length_in x
   unfolding part_of number_fields
-  data-back h =
+  data_back h =
       let k : offsets_at e - length_at e ≡ number_size = omega arith in
       number-back (encode x) number_size (length_at e) (length_in x) (field_of 7 number_size (omega arith) k) h
 
   -- ---- the offsets and the parts
-  behind-numbers : drop (offsets_at e) (encode x) ≡ join (offset_fields e (places_of x)) ++ join (part_list x)
+  behind_numbers : drop (offsets_at e) (encode x) ≡ join (offset_fields e (places_of x)) ++ join (part_list x)
   unfolding encode
-  behind-numbers =
+  behind_numbers =
       drop_at (join (numbers x)) _ (offsets_at e)
       (length-numbers e (sequence_in x) (root_in x) (iv_in x) (required_in x) (total_in x) (segment_in x) (length_in x) r t)
 
-  behind-header : drop (header_size e) (encode x) ≡ join (part_list x)
+  behind_header : drop (header_size e) (encode x) ≡ join (part_list x)
   unfolding encode
-  behind-header =
+  behind_header =
       let a : List ℕ = join (numbers x) in
       let b : List ℕ = join (offset_fields e (places_of x)) in
       let l : length (a ++ b) ≡ header_size e =
@@ -170,17 +170,17 @@ module _ (x : Share) (r : length (root_in x) ≡ hash_size) (t : length (iv_in x
   told-length false bs = refl
   told-length true bs = refl
 
-  offsets-back : FitEach (offset_sizes e) (told_of e (places_of x)) → offsets_of e (encode x) ≡ told_of e (places_of x)
+  offsets_back : FitEach (offset_sizes e) (told_of e (places_of x)) → offsets_of e (encode x) ≡ told_of e (places_of x)
   unfolding offsets_of offset_fields
-  offsets-back f =
+  offsets_back f =
       numbers-back (encode x) (join (part_list x)) (offsets_at e) (offset_sizes e) (told_of e (places_of x))
-      (told-length e (places_of x)) f behind-numbers
+      (told-length e (places_of x)) f behind_numbers
 
   part_back : (i : ℕ) → i < length (part_list x) → part_of i (places_of x) (encode x) ≡ get_or (part_list x) i []
   unfolding places_of
   part_back i h =
       packed_part (header_size e) (encode x) [] (part_list x) i h
-      (behind-header ∙ sym (append-nil (join (part_list x))))
+      (behind_header ∙ sym (append-nil (join (part_list x))))
 
 -- The boundaries that are told are the share's.
 told_bounds : (x : Share) (c : List ℕ) → offsets_of (edition_in x) c ≡ told_of (edition_in x) (places_of x)
@@ -190,7 +190,7 @@ told_bounds (sdmf x) c h = rw h (simp add-zero)
 told_bounds (mdmf x) c h = h
 
 bounds_back : (x : Share) (n : ℕ) → Writable x n → bounds_of (edition_in x) (encode x) ≡ places_of x
-bounds_back x n w = told_bounds x (encode x) (offsets-back x w.root_size w.iv_size_holds w.offsets)
+bounds_back x n w = told_bounds x (encode x) (offsets_back x w.root_size w.iv_size_holds w.offsets)
 
 read_back : (x : Share) (n : ℕ) → Writable x n → Fits64 (sequence_in x) → Fits64 (length_in x)
     → read_by (edition_in x) (places_of x) (encode x) ≡ x
@@ -205,7 +205,7 @@ read_back (sdmf x) n w q d =
       iv-back (sdmf x) r t,
       required-back (sdmf x) r t,
       total-back (sdmf x) r t,
-      data-back (sdmf x) r t d,
+      data_back (sdmf x) r t d,
     )
     (rw (
       p 0 (omega arith),
@@ -224,8 +224,8 @@ read_back (mdmf x) n w q d =
       root-back (mdmf x) r t,
       required-back (mdmf x) r t,
       total-back (mdmf x) r t,
-      segment-back (mdmf x) r t w.segment_fits_holds,
-      data-back (mdmf x) r t d,
+      segment_back (mdmf x) r t w.segment_fits_holds,
+      data_back (mdmf x) r t d,
     )
     (rw (
       p 0 (omega arith),
@@ -272,15 +272,15 @@ module _ (x : Share) (n : ℕ) (w : Writable x n) (q : Fits64 (sequence_in x)) (
   abbrev c : List ℕ
   c = encode x
 
-  rows-passed : Passed x n
-  rows-passed = passed x n (written x n w)
+  rows_passed : Passed x n
+  rows_passed = passed x n (written x n w)
 
   order-back : ordered g c ≡ true
   unfolding ordered bounds_fit
   order-back =
       let b = bounds_back x n w in
       let l = length-encode x w.root_size w.iv_size_holds in
-      let p = both (placed_ok g (places_of x)) (offsets_fit g (places_of x)) rows-passed.placed in
+      let p = both (placed_ok g (places_of x)) (offsets_fit g (places_of x)) rows_passed.placed in
       rw (b, p.0) (eq-eqb _ _ (places_end x ∙ sym l))
 
   -- Rows 21 to 24.
@@ -297,16 +297,16 @@ module _ (x : Share) (n : ℕ) (w : Writable x n) (q : Fits64 (sequence_in x)) (
         required-back x r t,
         total-back x r t,
         coding_true _ _ w.some_required w.enough,
-        segment-back x r t w.segment_fits_holds,
-        data-back x r t d,
+        segment_back x r t w.segment_fits_holds,
+        data_back x r t d,
         (both (fits number_size (segment_in x)) (segment_ok g (segment_in x) (required_in x) (length_in x))
-            rows-passed.segment).1,
+            rows_passed.segment).1,
       )
 
   -- Rows 26 to 29 of the checker are the writer's.
-  laid-back : first_row (laid_rows g (places_of x) c) ≡ 0
+  laid_back : first_row (laid_rows g (places_of x) c) ≡ 0
   unfolding laid_rows
-  laid-back =
+  laid_back =
       let r = w.root_size in
       let t = w.iv_size_holds in
       let p = part_back x r t in
@@ -315,24 +315,24 @@ module _ (x : Share) (n : ℕ) (w : Writable x n) (q : Fits64 (sequence_in x)) (
         sequence-back x r t q,
         required-back x r t,
         total-back x r t,
-        segment-back x r t w.segment_fits_holds,
-        data-back x r t d,
+        segment_back x r t w.segment_fits_holds,
+        data_back x r t d,
         p (chain_part g) h.0 ∙ chain_at x,
         p (tree_part g) h.1 ∙ tree_at x,
         p (share_data_part g) h.2 ∙ data_at_lem x,
       )
-      rows-passed.content
+      rows_passed.content
 
   accepted-back : share_outcome c ≡ 0
   unfolding body_rows first_row
   accepted-back =
-      let e = edition-back x w.root_size w.iv_size_holds in
-      outcome_body c (rw e head-back) ∙ rw (e, order-back, bounds_back x n w) laid-back
+      let e = edition_back x w.root_size w.iv_size_holds in
+      outcome_body c (rw e head-back) ∙ rw (e, order-back, bounds_back x n w) laid_back
 
   share_back : share_of c ≡ x
   unfolding share_of
   share_back =
-      rw (edition-back x w.root_size w.iv_size_holds, bounds_back x n w) (read_back x n w q d)
+      rw (edition_back x w.root_size w.iv_size_holds, bounds_back x n w) (read_back x n w q d)
 
 -- What the arguments' types say of numbers, where no row says it: SDMF's data length is at most its segment size, which
 -- fits.

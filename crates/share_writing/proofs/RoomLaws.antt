@@ -20,20 +20,20 @@ leb_less h m n k = go (leb m (n - h)) refl
 
 module _ (sizes : List ℕ) where
   -- The header is taken off.
-  pub room-start : (header space : ℕ) → header ≤ space
+  pub room_start : (header space : ℕ) → header ≤ space
       → leb (header + sum sizes) space ≡ leb (sum (drop 0 sizes)) (space - header)
-  room-start header space h = leb_less header (sum sizes) space h
+  room_start header space h = leb_less header (sum sizes) space h
 
-  pub room-none : (header space : ℕ) → space < header → leb (header + sum sizes) space ≡ false
-  room-none header space h = lt-leb (header + sum sizes) space (omega arith)
+  pub room_none : (header space : ℕ) → space < header → leb (header + sum sizes) space ≡ false
+  room_none header space h = lt-leb (header + sum sizes) space (omega arith)
 
   -- A size is taken off, or is too much.
-  pub room-more : (i left : ℕ) → i < length sizes → get_or sizes i 0 ≤ left
+  pub room_more : (i left : ℕ) → i < length sizes → get_or sizes i 0 ≤ left
       → leb (sum (drop i sizes)) left ≡ leb (sum (drop (i + 1) sizes)) (left - get_or sizes i 0)
-  room-more i left h k = rw (sum_drop sizes i h) (leb_less (get_or sizes i 0) (sum (drop (i + 1) sizes)) left k)
+  room_more i left h k = rw (sum_drop sizes i h) (leb_less (get_or sizes i 0) (sum (drop (i + 1) sizes)) left k)
 
-  pub room-short : (i left : ℕ) → i < length sizes → left < get_or sizes i 0 → leb (sum (drop i sizes)) left ≡ false
-  room-short i left h k = lt-leb (sum (drop i sizes)) left (rw (sum_drop sizes i h) (omega arith))
+  pub room_short : (i left : ℕ) → i < length sizes → left < get_or sizes i 0 → leb (sum (drop i sizes)) left ≡ false
+  room_short i left h k = lt-leb (sum (drop i sizes)) left (rw (sum_drop sizes i h) (omega arith))
 
-  pub room-end : (i left : ℕ) → length sizes ≤ i → leb (sum (drop i sizes)) left ≡ true
-  room-end i left h = le-leb (sum (drop i sizes)) left (rw (sum-none sizes i h) (omega arith))
+  pub room_end : (i left : ℕ) → length sizes ≤ i → leb (sum (drop i sizes)) left ≡ true
+  room_end i left h = le-leb (sum (drop i sizes)) left (rw (sum-none sizes i h) (omega arith))

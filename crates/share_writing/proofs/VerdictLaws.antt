@@ -16,10 +16,10 @@ use Rattle.share_writing.specs.declared.Verdict.{Verdict}
 
 module _ (e : Edition) (sequence : ℕ) (root iv : List ℕ) (k n given m : ℕ) (sizes chain tree share_data : List ℕ)
     (space : ℕ) (v : Verdict) where
-  pub judges-refused : (r : ℕ) → v.number ≡ r
+  pub judges_refused : (r : ℕ) → v.number ≡ r
       → first_row (rows_of e sequence root iv k n (segment_for e given k m) m sizes chain tree share_data space) ≡ r → 0 < r
       → Judges e sequence root iv k n given m sizes chain tree share_data space v
-  judges-refused r h o p =
+  judges_refused r h o p =
       record { number = h ∙ sym o; segment = λ z. absurd (omega arith); bounds = λ z. absurd (omega arith) }
 
 -- On 0 a header and the parts have room, and what they are asked for.

@@ -22,13 +22,13 @@ use Rattle.share_contents.specs.Contents.{content_rows}
 use Rattle.shares.specs.Share.{checked_of, checked_container, share_part, part_at}
 use Rattle.shares.specs.Share.{container_part, container_part_at}
 use Rattle.shares.specs.Claims.{share_numbers, container_numbers, InTurn, Demand1Share, Demand1Container}
-use Rattle.shares.proofs.ShareLaws.{checked-number, checked-edition, checked_refused, checked_bounds, none-empty}
+use Rattle.shares.proofs.ShareLaws.{checked_number, checked_edition, checked_refused, checked_bounds, none-empty}
 use Rattle.shares.proofs.ShareLaws.{bounds_moved, accepted-inside, container_refused, container_edition}
 use Rattle.shares.proofs.ShareLaws.{container_zero, container_none, container_shares}
 use Rattle.share_format.proofs.BoundLaws.{risen, part_length}
 use Rattle.share_format.proofs.PackedLaws.{parts_between, between_join}
 use Rattle.share_judging.proofs.JudgingLaws.{order_facts, outcome-ordered}
-use Rattle.share_numbers.proofs.OrderLaws.{placed_first, placed-order, placed-last}
+use Rattle.share_numbers.proofs.OrderLaws.{placed_first, placed-order, placed_last}
 use Rattle.octets.specs.Lists.{any_of}
 
 -- ---- the number is one of the rows'
@@ -82,15 +82,15 @@ module _ (s : List ℕ) (z : share_outcome s ≡ 0) where
       let o = order_facts e s (outcome-ordered s z).1 in
       let between =
       between_join (least_sizes e) (header_size e) (drop 1 bs) s (placed-order e bs s o.0 o.1)
-      (placed-last e bs s o.0 o.1) in
+      (placed_last e bs s o.0 o.1) in
       let listed = ap join (sym (parts_listed e s) ∙ ap (λ (a : ℕ). parts_between a (drop 1 bs) s) first) in
       ap (λ (l : List ℕ). take (header_size e) s ++ l)
       (rw (← append-nil (part_of 6 bs s)) (listed ∙ between))
       ∙ take-append-drop (header_size e) s
 
-  in-turn : InTurn s
+  in_turn : InTurn s
   unfolding share_part part_at
-  in-turn =
+  in_turn =
       let b = checked_bounds s z in
       record {
         first = rw b first;
@@ -107,12 +107,12 @@ share_refused s n i h = rw (← checked_refused 0 _ s refl n) (none-empty (editi
 pub demand_1_share : (s : List ℕ) → Demand1Share s
 unfolding checked_of
 demand_1_share s =
-    let n = checked-number 0 s in
+    let n = checked_number 0 s in
     record {
       number = rw n (outcome_occurs s);
-      edition = checked-edition 0 s;
+      edition = checked_edition 0 s;
       refused = λ r i h. share_refused s (λ z. r (n ∙ z)) i h;
-      accepted = λ z. in-turn s (sym n ∙ z);
+      accepted = λ z. in_turn s (sym n ∙ z);
     }
 
 -- ---- a share in a container
@@ -126,7 +126,7 @@ container_occurs c = go (eqb (lent_of c).number 0) refl
     go : (t : Bool) → eqb (lent_of c).number 0 ≡ t → any_of (eqb (checked_container c).number) container_numbers ≡ true
     go true e =
         let n = share_outcome (data_lent c) in
-        rw (container_zero c (eqb-true _ _ e), checked-number (lent_of c).from (data_lent c))
+        rw (container_zero c (eqb-true _ _ e), checked_number (lent_of c).from (data_lent c))
         (occurs_later n 1 _ (occurs_later n 2 _ (outcome_occurs (data_lent c))))
     go false e = rw (container_refused c (eqb-false _ _ e)) (lent_occurs c)
 
@@ -137,15 +137,15 @@ container_refuses c n i h =
     rw (container_none c n) (none-empty (edition_of (data_lent c)) (checked_container c).number i c h)
 
 module _ (c : List ℕ) (z : (checked_container c).number ≡ 0) (i : ℕ) (h : i < 7) where
-  moved-place : container_part_at i c ≡ (lent_of c).from + part_at i (data_lent c)
+  moved_place : container_part_at i c ≡ (lent_of c).from + part_at i (data_lent c)
   unfolding container_part_at part_at
-  moved-place =
+  moved_place =
       let s = container_shares c z in
       rw (s.1, checked_bounds (data_lent c) s.0) (bounds_moved (lent_of c).from (data_lent c) i (omega arith))
 
-  moved-part : container_part i c ≡ share_part i (data_lent c)
+  moved_part : container_part i c ≡ share_part i (data_lent c)
   unfolding container_part share_part part_of
-  moved-part =
+  moved_part =
       let s = container_shares c z in
       let f : ℕ = (lent_of c).from in
       let bs : List ℕ = bounds_of (edition_of (data_lent c)) (data_lent c) in
@@ -166,5 +166,5 @@ demand_1_container c =
       number = container_occurs c;
       edition = container_edition c;
       refused = container_refuses c;
-      accepted = λ z i h. (moved-part c z i h, moved-place c z i h);
+      accepted = λ z i h. (moved_part c z i h, moved_place c z i h);
     }

@@ -8,13 +8,13 @@ use Rattle.octets.specs.Facts.{Octets}
 use Rattle.share_format.specs.Parts.{share_of, encode}
 use Rattle.share_judging.specs.Judging.{share_outcome}
 use Rattle.share_rules.specs.Writing.{write_outcome, written_answer, space_after}
-use Rattle.share_rules.proofs.Claims.{done-space, done-length, done-share}
+use Rattle.share_rules.proofs.Claims.{done-space, done-length, done_share}
 use Rattle.share_rules.proofs.ReadAgain.{read_again, octets_share}
 use Rattle.share_rules.proofs.WritingLaws.{writable, written}
 use Rattle.share_rules.proofs.WrittenBack.{written_back, octets_encode}
 use Rattle.shares.specs.Claims.{ShareRoundTrip}
 use Rattle.shares.specs.Share.{checked_of, handed_back}
-use Rattle.shares.proofs.ShareLaws.{checked-number, checked_bounds}
+use Rattle.shares.proofs.ShareLaws.{checked_number, checked_bounds}
 
 -- On 0 the check hands back what the header lays out.
 handed_share : (s : List ℕ) → share_outcome s ≡ 0 → handed_back s ≡ share_of s
@@ -23,11 +23,11 @@ handed_share s z = rw (checked_bounds s z)
 
 accepted : (s : List ℕ) → (checked_of s).number ≡ 0 → share_outcome s ≡ 0
 unfolding checked_of
-accepted s z = sym (checked-number 0 s) ∙ z
+accepted s z = sym (checked_number 0 s) ∙ z
 
 accepts : (s : List ℕ) → share_outcome s ≡ 0 → (checked_of s).number ≡ 0
 unfolding checked_of
-accepts s z = checked-number 0 s ∙ z
+accepts s z = checked_number 0 s ∙ z
 
 -- What is accepted is written as it was.
 module _ (s d : List ℕ) (o : Octets s) (z : share_outcome s ≡ 0) (h : length s ≤ length d) where
@@ -49,7 +49,7 @@ share_round_trip =
       written =
           λ x d q z.
           let b = written_back x (length d) (writable x (length d) z) q in
-          rw (done-share x d z) (accepts (encode x) b.0, handed_share (encode x) b.0 ∙ b.1);
+          rw (done_share x d z) (accepts (encode x) b.0, handed_share (encode x) b.0 ∙ b.1);
       again =
           λ s d o z h.
           let a = accepted s z in

@@ -37,25 +37,25 @@ module _ (base : ℕ) (s : List ℕ) where
       cond t (record { number = 0; edition = version_of (edition_of s); bounds = bounds_at base s })
       (refused (edition_of s) (share_outcome s))
 
-  pub checked-number : (checked_at base s).number ≡ share_outcome s
+  pub checked_number : (checked_at base s).number ≡ share_outcome s
   unfolding checked_at
-  checked-number = go (eqb (share_outcome s) 0) refl
+  checked_number = go (eqb (share_outcome s) 0) refl
     where
       go : (t : Bool) → eqb (share_outcome s) 0 ≡ t → (answer t).number ≡ share_outcome s
       go true e = sym (eqb-true _ _ e)
       go false e = refl
 
-  pub checked-edition : (checked_at base s).edition ≡ version_of (edition_of s)
+  pub checked_edition : (checked_at base s).edition ≡ version_of (edition_of s)
   unfolding checked_at
-  checked-edition = go (eqb (share_outcome s) 0)
+  checked_edition = go (eqb (share_outcome s) 0)
     where
       go : (t : Bool) → (answer t).edition ≡ version_of (edition_of s)
       go true = refl
       go false = refl
 
-  bounds-zero : share_outcome s ≡ 0 → (checked_at base s).bounds ≡ bounds_at base s
+  bounds_zero : share_outcome s ≡ 0 → (checked_at base s).bounds ≡ bounds_at base s
   unfolding checked_at
-  bounds-zero e = rw e
+  bounds_zero e = rw e
 
 -- A share by itself begins at byte 0.
 zero-moved : (l : List ℕ) → map (λ b. 0 + b) l ≡ l
@@ -64,7 +64,7 @@ zero-moved (x ∷ l) = rw (zero-add x, zero-moved l)
 
 pub checked_bounds : (s : List ℕ) → share_outcome s ≡ 0 → (checked_of s).bounds ≡ bounds_of (edition_of s) s
 unfolding checked_of bounds_at
-checked_bounds s e = bounds-zero 0 s e ∙ zero-moved (bounds_of (edition_of s) s)
+checked_bounds s e = bounds_zero 0 s e ∙ zero-moved (bounds_of (edition_of s) s)
 
 pub container_refused : (c : List ℕ) → ((lent_of c).number ≡ 0 → ⊥)
     → checked_container c ≡ refused false (lent_of c).number
@@ -96,7 +96,7 @@ pub container_edition : (c : List ℕ) → (checked_container c).edition ≡ ver
 container_edition c = go (eqb (lent_of c).number 0) refl
   where
     go : (t : Bool) → eqb (lent_of c).number 0 ≡ t → (checked_container c).edition ≡ version_of (edition_of (data_lent c))
-    go true e = rw (container_zero c (eqb-true _ _ e)) (checked-edition (lent_of c).from (data_lent c))
+    go true e = rw (container_zero c (eqb-true _ _ e)) (checked_edition (lent_of c).from (data_lent c))
     go false e = rw (container_refused c (eqb-false _ _ e), none_named c (eqb-false _ _ e))
 
 -- What the number says of the answer: no bounds, or the share's.
@@ -108,7 +108,7 @@ container_none c n = go (eqb (lent_of c).number 0) refl
         → checked_container c ≡ refused (edition_of (data_lent c)) (checked_container c).number
     go true e =
         let q = container_zero c (eqb-true _ _ e) in
-        let k = checked-number (lent_of c).from (data_lent c) in
+        let k = checked_number (lent_of c).from (data_lent c) in
         rw q (sym (checked_refused (lent_of c).from _ (data_lent c) k (rw q at n)))
     go false e = rw (container_refused c (eqb-false _ _ e), none_named c (eqb-false _ _ e))
 
@@ -120,8 +120,8 @@ container_shares c z = go (eqb (lent_of c).number 0) refl
         → (share_outcome (data_lent c) ≡ 0) × ((checked_container c).bounds ≡ bounds_at (lent_of c).from (data_lent c))
     go true e =
         let q = container_zero c (eqb-true _ _ e) in
-        let o = sym (checked-number (lent_of c).from (data_lent c)) ∙ (rw q at z) in
-        (o, rw q (bounds-zero (lent_of c).from (data_lent c) o))
+        let o = sym (checked_number (lent_of c).from (data_lent c)) ∙ (rw q at z) in
+        (o, rw q (bounds_zero (lent_of c).from (data_lent c) o))
     go false e = absurd (eqb-false _ _ e (rw (container_refused c (eqb-false _ _ e)) at z))
 
 -- ---- the parts
@@ -226,4 +226,4 @@ moved_listed true base s = refl
 
 pub checked_named : (s : List ℕ) → (checked_of s).edition ≡ version_of (edition_of s)
 unfolding checked_of
-checked_named s = checked-edition 0 s
+checked_named s = checked_edition 0 s

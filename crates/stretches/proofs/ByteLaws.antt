@@ -62,24 +62,24 @@ rows_back a l (r ∷ rs) t e h =
     (rows_back (a + 8) l rs t z1.1 h.1)
 
 module _ (rs : List Stretch) (few : length rs ≤ row_limit) where
-  pub length-list : length (list_bytes rs) ≡ list_length
+  pub length_list : length (list_bytes rs) ≡ list_length
   unfolding list_bytes
-  length-list = simp (length-append, length_digits, length-row_bytes, length-replicate) (omega arith)
+  length_list = simp (length-append, length_digits, length-row_bytes, length-replicate) (omega arith)
 
-  count-back : (take 4 (drop 0 (list_bytes rs)) ≡ digits 4 (length rs)) × (drop 4 (list_bytes rs) ≡ join (map row_bytes rs) ++ replicate (list_length - (4 + 8 * length rs)) 0)
+  count_back : (take 4 (drop 0 (list_bytes rs)) ≡ digits 4 (length rs)) × (drop 4 (list_bytes rs) ≡ join (map row_bytes rs) ++ replicate (list_length - (4 + 8 * length rs)) 0)
   unfolding list_bytes
-  count-back = field_back (list_bytes rs) 0 4 4 (digits 4 (length rs)) _ refl (length_digits 4 (length rs)) refl
+  count_back = field_back (list_bytes rs) 0 4 4 (digits 4 (length rs)) _ refl (length_digits 4 (length rs)) refl
 
-  pub count-list : row_count (list_bytes rs) ≡ length rs
+  pub count_list : row_count (list_bytes rs) ≡ length rs
   unfolding row_count number_at
-  count-list = ap number count-back.0 ∙ number_four (length rs) (omega arith)
+  count_list = ap number count_back.0 ∙ number_four (length rs) (omega arith)
 
-  pub rows-list : Each Small rs → stretches_of (list_bytes rs) ≡ rs
+  pub rows_list : Each Small rs → stretches_of (list_bytes rs) ≡ rs
   unfolding stretches_of
-  rows-list h = rw count-list (rows_back 4 (list_bytes rs) rs _ count-back.1 h)
+  rows_list h = rw count_list (rows_back 4 (list_bytes rs) rs _ count_back.1 h)
 
-  pub rest-list : drop (4 + 8 * length rs) (list_bytes rs) ≡ replicate (list_length - (4 + 8 * length rs)) 0
-  rest-list = (field_back (list_bytes rs) 4 (8 * length rs) (4 + 8 * length rs) (join (map row_bytes rs)) _ count-back.1 (length-row_bytes rs) refl).1
+  pub rest_list : drop (4 + 8 * length rs) (list_bytes rs) ≡ replicate (list_length - (4 + 8 * length rs)) 0
+  rest_list = (field_back (list_bytes rs) 4 (8 * length rs) (4 + 8 * length rs) (join (map row_bytes rs)) _ count_back.1 (length-row_bytes rs) refl).1
 
 -- ---- from bytes to rows and back
 pub rows_then : (n a : ℕ) (l : List ℕ) → a + 8 * n ≤ length l → Octets l → drop a l ≡ join (map row_bytes (rows_from n a l)) ++ drop (a + 8 * n) l

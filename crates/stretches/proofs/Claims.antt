@@ -21,8 +21,8 @@ use Rattle.stretches.specs.List.{row_bytes, fresh_list, list_ok}
 use Rattle.stretches.specs.Claims.{Rising, GoodList, Judged, Storable, ListRoundTrip, Tracks}
 use Rattle.stretches.proofs.ShapeLaws.{never, listed-high, rising-after, length-after, same_stretches}
 use Rattle.stretches.proofs.UnwrittenLaws.{listed-unwritten}
-use Rattle.stretches.proofs.ByteLaws.{rising_small, length-rows_from, length-list, count-list, rows-list}
-use Rattle.stretches.proofs.ByteLaws.{rest-list, ListFormed, list_facts, list_true, list_rows_lem, Zeros, all_zero_lem}
+use Rattle.stretches.proofs.ByteLaws.{rising_small, length-rows_from, length_list, count_list, rows_list}
+use Rattle.stretches.proofs.ByteLaws.{rest_list, ListFormed, list_facts, list_true, list_rows_lem, Zeros, all_zero_lem}
 use Rattle.stretches.proofs.ByteLaws.{zeros_true, zeros_facts}
 
 -- ---- the test and its conditions
@@ -35,7 +35,7 @@ good_list l d e =
       few = f.few;
       rest = λ i h. rest_at l k i f.rest h;
       rises = f.rises;
-      inside = λ i z. inside-at (stretches_of l) (length d) i f.rises z;
+      inside = λ i z. inside_at (stretches_of l) (length d) i f.rises z;
       zeros = zeros_facts (stretches_of l) d f.zero;
     }
   where
@@ -45,8 +45,8 @@ good_list l d e =
         ap (λ (j : ℕ). get_or l j 0) (sym s) ∙ sym (get_or-drop k l (i - k) 0)
         ∙ ap (λ (x : List ℕ). get_or x (i - k) 0) (rest_field l k z) ∙ at_rep (length l - k) (i - k)
 
-    inside-at : (rs : List Stretch) (n i : ℕ) → Rising 0 rs n → listed rs i ≡ true → i < n
-    inside-at rs n i r z = go (ltb i n) refl
+    inside_at : (rs : List Stretch) (n i : ℕ) → Rising 0 rs n → listed rs i ≡ true → i < n
+    inside_at rs n i r z = go (ltb i n) refl
       where
         go : (b : Bool) → ltb i n ≡ b → i < n
         go true p = ltb-true i n p
@@ -69,15 +69,15 @@ judged l d = record { exactly = (good_list l d, list_good l d) }
 
 -- ---- the list and its parts
 storable_small : (rs : List Stretch) (n : ℕ) → Storable rs n → stretches_of (list_bytes rs) ≡ rs
-storable_small rs n s = rows-list rs s.few (rising_small 0 rs n s.fits s.rises)
+storable_small rs n s = rows_list rs s.few (rising_small 0 rs n s.fits s.rises)
 
 pub bytes_good : (rs : List Stretch) (d : List ℕ) → Storable rs (length d) → Zeros rs d → list_ok (list_bytes rs) d ≡ true
 bytes_good rs d s z =
     let back : stretches_of (list_bytes rs) ≡ rs = storable_small rs (length d) s in
     list_true (list_bytes rs) d (record {
-      long = length-list rs s.few;
-      few = rw (count-list rs s.few) s.few;
-      rest = rw (count-list rs s.few, rest-list rs s.few)
+      long = length_list rs s.few;
+      few = rw (count_list rs s.few) s.few;
+      rest = rw (count_list rs s.few, rest_list rs s.few)
           (all_zero-replicate (list_length - (rows_at + row_size * length rs)));
       rises = rw back s.rises;
       zero = rw back (zeros_true rs d z);

@@ -296,10 +296,10 @@ cut_speaks os i h =
     ap (last_said (marks i)) h.is ∙ last_said-append (marks i) h.earlier (cut_at h.to ∷ [])
     ∙ rw (le-leb h.to i h.at_or_below)
 
-cut-or_start : (os : List Change) (i : ℕ) → (os ≡ []) ⊎ EndsInCut os i → or_else (last_said (marks i) os) false ≡ false
+cut_or_start : (os : List Change) (i : ℕ) → (os ≡ []) ⊎ EndsInCut os i → or_else (last_said (marks i) os) false ≡ false
 unfolding or_else last_said
-cut-or_start os i (inl e) = rw e
-cut-or_start os i (inr c) = rw (cut_speaks os i c)
+cut_or_start os i (inl e) = rw e
+cut_or_start os i (inr c) = rw (cut_speaks os i c)
 
 since_unwritten : (os : List Change) (i : ℕ) → NoWriteSince os i → or_else (last_said (marks i) os) false ≡ false
 unfolding newer
@@ -307,7 +307,7 @@ since_unwritten os i h =
     let e : last_said (marks i) os ≡ last_said (marks i) h.before =
     ap (last_said (marks i)) h.split ∙ last_said-append (marks i) h.before h.since
     ∙ rw (unsaid h.since i h.no_cut h.no_write) in
-    rw e (cut-or_start h.before i h.from)
+    rw e (cut_or_start h.before i h.from)
 
 -- WHAT IS UNWRITTEN
 pub unwritten_is : (os : List Change) (i : ℕ) → Unwritten os i

@@ -21,7 +21,7 @@ use Rattle.format.specs.Judging.{Known}
 use Rattle.format.specs.View.{place_at}
 use Rattle.format.specs.declared.layout.Frame.{Frame}
 use Rattle.rules.specs.Leasing.{present}
-use Rattle.leases.proofs.PlaceLaws.{known_bounds, known_places, lease-at, place_inside}
+use Rattle.leases.proofs.PlaceLaws.{known_bounds, known_places, lease_at, place_inside}
 use Rattle.upkeep_rules.specs.declared.LeaseRow.{LeaseRow}
 use Rattle.upkeep_rules.specs.Auditing.{row_of, rows_of, audit_outcome, audit_to, audit_answer, table_to, audit_table}
 use Rattle.upkeep_rules.proofs.AuditLaws.{rows-held, rows_empty, length-rows}
@@ -47,9 +47,9 @@ row_read p c r o x t u n = λ i. record {
 -- ---- from lease to lease
 module _ (ls : List (List ℕ)) where
   -- where a lease is left there is a place
-  lease-left : (at : ℕ) → 0 < present (drop at ls) → at < length ls
+  lease_left : (at : ℕ) → 0 < present (drop at ls) → at < length ls
   unfolding present
-  lease-left at h = go (ltb at (length ls)) refl
+  lease_left at h = go (ltb at (length ls)) refl
     where
       go : (t : Bool) → ltb at (length ls) ≡ t → at < length ls
       go true e = ltb-true at (length ls) e
@@ -62,8 +62,8 @@ module _ (ls : List (List ℕ)) where
   same_left i at e = sym (length-rows (drop i ls)) ∙ ap length e ∙ length-rows (drop at ls)
 
   module _ (at : ℕ) (h : at < length ls) where
-    pass-empty : held (get_or ls at []) ≡ false → rows_of (drop at ls) ≡ rows_of (drop (at + 1) ls)
-    pass-empty e = rw (add-one, drop-cons ls at [] h) (rows_empty (get_or ls at []) (drop (suc at) ls) e)
+    pass_empty : held (get_or ls at []) ≡ false → rows_of (drop at ls) ≡ rows_of (drop (at + 1) ls)
+    pass_empty e = rw (add-one, drop-cons ls at [] h) (rows_empty (get_or ls at []) (drop (suc at) ls) e)
 
     take-held : held (get_or ls at []) ≡ true
         → rows_of (drop at ls) ≡ row_of (get_or ls at []) ∷ rows_of (drop (at + 1) ls)
@@ -88,7 +88,7 @@ pub record Reached (c : List ℕ) (f : Frame) (i at : ℕ) : Type 0 where
 module _ (c : List ℕ) (f : Frame) (i at : ℕ) where
   pub reached : Known c f → 0 < present (drop i (leases_of c)) → rows_from c i ≡ rows_from c at → Reached c f i at
   reached k h e =
-      let l = lease-left (leases_of c) at (rw (← same_left (leases_of c) i at e) h) in
+      let l = lease_left (leases_of c) at (rw (← same_left (leases_of c) i at e) h) in
       let b : at < fixed_places + f.extras = omega (arith, l, known_places c f k) in
       let z = known_bounds c f k in
       record {
@@ -101,28 +101,28 @@ module _ (c : List ℕ) (f : Frame) (i at : ℕ) where
       }
 
   module _ (r : Reached c f i at) (p : ℕ) (q : p ≡ place_at f.offset at) where
-    lease-here : take record_size (drop p c) ≡ get_or (leases_of c) at []
-    lease-here = rw q (sym (lease-at c f r.known at r.below))
+    lease_here : take record_size (drop p c) ≡ get_or (leases_of c) at []
+    lease_here = rw q (sym (lease_at c f r.known at r.below))
 
     place_here : at < length (leases_of c)
     place_here = omega (arith, r.below, known_places c f r.known)
 
-    pub reached-empty : not (held (take record_size (drop p c))) ≡ true → rows_from c i ≡ rows_from c (at + 1)
-    reached-empty e = r.rows ∙ pass-empty (leases_of c) at place_here (ap held (sym lease-here) ∙ not-true _ e)
+    pub reached_empty : not (held (take record_size (drop p c))) ≡ true → rows_from c i ≡ rows_from c (at + 1)
+    reached_empty e = r.rows ∙ pass_empty (leases_of c) at place_here (ap held (sym lease_here) ∙ not-true _ e)
 
-    pub reached-held : not (held (take record_size (drop p c))) ≡ false
+    pub reached_held : not (held (take record_size (drop p c))) ≡ false
         → rows_from c i ≡ row_of (take record_size (drop p c)) ∷ rows_from c (at + 1)
-    reached-held e =
-        r.rows ∙ take-held (leases_of c) at place_here (ap held (sym lease-here) ∙ not-false _ e)
-        ∙ rw (← lease-here) refl
+    reached_held e =
+        r.rows ∙ take-held (leases_of c) at place_here (ap held (sym lease_here) ∙ not-false _ e)
+        ∙ rw (← lease_here) refl
 
 -- ---- a table whose first i elements are those of s: its length, and a turn of the loop that fills it
 module _ {A : Type 0} where
   abbrev pub up_to : List A → List A → ℕ → List A
   up_to s d i = take i s ++ drop i d
 
-  up-length : (s d : List A) (i : ℕ) → i ≤ length s → i ≤ length d → length (up_to s d i) ≡ length d
-  up-length s d i h k = simp (length-append, length-take, length-drop) (omega arith)
+  up_length : (s d : List A) (i : ℕ) → i ≤ length s → i ≤ length d → length (up_to s d i) ≡ length d
+  up_length s d i h k = simp (length-append, length-take, length-drop) (omega arith)
 
   up_suc : (z : A) (i : ℕ) (d s : List A) → i < length s → i < length d
       → set (up_to s d i) i (get_or s i z) ≡ up_to s d (suc i)
@@ -177,12 +177,12 @@ unfilled c n = record { done = 0; at = 0; few = zero-le; fits = lit< tt; left = 
 
 module _ (c : List ℕ) (old : List LeaseRow) (n : ℕ) (d : Due c old n) (t : Filling c n) where
   pub filled-length : length (filled c old t.done) ≡ length old
-  filled-length = up-length (rows_in c) old t.done (omega (arith, t.few, d.there))
+  filled-length = up_length (rows_in c) old t.done (omega (arith, t.few, d.there))
       (omega (arith, t.few, d.inside))
 
   module _ (h : t.done < n) where
-    pub filling-asks : (well_formed c ≡ true) × (0 < present (drop t.at (leases_of c)))
-    filling-asks = (
+    pub filling_asks : (well_formed c ≡ true) × (0 < present (drop t.at (leases_of c)))
+    filling_asks = (
       d.formed (omega arith),
       omega (
         arith,
@@ -194,20 +194,20 @@ module _ (c : List ℕ) (old : List LeaseRow) (n : ℕ) (d : Due c old n) (t : F
     )
 
     module _ (r : LeaseRow) (next : ℕ) (e : rows_from c t.at ≡ r ∷ rows_from c next) where
-      row-then : get_or (rows_in c) t.done r ∷ drop (suc t.done) (rows_in c) ≡ r ∷ rows_from c next
-      row-then = sym (drop-cons (rows_in c) t.done r (omega (arith, d.there))) ∙ sym t.left ∙ e
+      row_then : get_or (rows_in c) t.done r ∷ drop (suc t.done) (rows_in c) ≡ r ∷ rows_from c next
+      row_then = sym (drop-cons (rows_in c) t.done r (omega (arith, d.there))) ∙ sym t.left ∙ e
 
-      pub few-more : t.done + 1 ≤ n
-      few-more = omega arith
+      pub few_more : t.done + 1 ≤ n
+      few_more = omega arith
 
-      pub left-more : rows_from c next ≡ drop (t.done + 1) (rows_in c)
-      left-more = rw add-one (sym (ap (drop 1) row-then))
+      pub left_more : rows_from c next ≡ drop (t.done + 1) (rows_in c)
+      left_more = rw add-one (sym (ap (drop 1) row_then))
 
       abbrev pub filling-more : next < 2 ^ 64 → Filling c n
-      filling-more f = record { done = t.done + 1; at = next; few = few-more; fits = f; left = left-more }
+      filling-more f = record { done = t.done + 1; at = next; few = few_more; fits = f; left = left_more }
 
       pub filled_more : set (filled c old t.done) t.done r ≡ filled c old (t.done + 1)
       filled_more =
           ap (set (filled c old t.done) t.done)
-          (sym (ap (λ (l : List LeaseRow). get_or l 0 r) row-then))
+          (sym (ap (λ (l : List LeaseRow). get_or l 0 r) row_then))
           ∙ up_more r t.done old (rows_in c) (omega (arith, d.there)) (omega (arith, d.inside))

@@ -14,7 +14,7 @@ use Rattle.octets.specs.Moves.{put}
 use Rattle.octets.specs.Numbers.{number_at, digits}
 use Rattle.octets.specs.Strings.{join}
 use Rattle.octets.specs.Rows.{first_row}
-use Rattle.octets.proofs.ListLaws.{each_take, each-drop}
+use Rattle.octets.proofs.ListLaws.{each_take, each_drop}
 use Rattle.octets.proofs.MoveLaws.{put-put, put_right, put-end, put-beyond, put-length}
 use Rattle.octets.proofs.NumberLaws.{length_digits}
 use Rattle.format.specs.Claims.{Place, Valid}
@@ -26,15 +26,15 @@ use Rattle.format.specs.Parts.{count_in, extras, front_of, head_of, no_lease, Pa
 use Rattle.format.specs.View.{tail_size}
 use Rattle.format.specs.declared.layout.Frame.{Frame}
 use Rattle.format.proofs.JudgingLaws.{known_sized}
-use Rattle.format.proofs.KnownLaws.{extras-framed, frame-count, frame-extras}
-use Rattle.format.proofs.RoundTrip.{extra-bytes, four_bytes, no_lease_lem, no_lease-held, parts_valid, places_sizes}
-use Rattle.format.proofs.ViewLaws.{formed-laid, length_front, put-head, put-tail}
+use Rattle.format.proofs.KnownLaws.{extras_framed, frame_count, frame_extras}
+use Rattle.format.proofs.RoundTrip.{extra_bytes, four_bytes, no_lease_lem, no_lease-held, parts_valid, places_sizes}
+use Rattle.format.proofs.ViewLaws.{formed_laid, length_front, put-head, put-tail}
 use Rattle.format.proofs.WellFormed.{length-join, length-records, records_shift}
 use Rattle.rules.specs.Leasing.{present}
 use Rattle.rules.specs.Outcomes.{answer_of, no_node, with_leases}
 use Rattle.leases.specs.Changes.{leased_as}
 use Rattle.leases.proofs.PlaceLaws.{expiry_at_lem, known_places, present-append, present_most}
-use Rattle.leases.proofs.ChangeLaws.{drop-tail, Leased, recounted}
+use Rattle.leases.proofs.ChangeLaws.{drop_tail_lem, Leased, recounted}
 use Rattle.leases.proofs.OperationLaws.{present-drop_tail}
 use Rattle.upkeep_rules.specs.Sweeping.{after_sweep, expired, swept, sweep_answer, sweep_outcome, sweep_to, swept_container}
 use Rattle.upkeep_rules.specs.Sweeping.{swept_place}
@@ -59,18 +59,18 @@ module _ (time p : ℕ) (c : List ℕ) (fits : p + record_size ≤ length c) whe
   abbrev r : List ℕ
   r = take record_size (drop p c)
 
-  place-size : length r ≡ record_size
-  place-size = length-take-le record_size (drop p c) (rw length-drop (omega arith))
+  place_size : length r ≡ record_size
+  place_size = length-take-le record_size (drop p c) (rw length-drop (omega arith))
 
   put_same : put p r c ≡ c
-  put_same = rw (place-size, ← take-add p record_size c) (take-append-drop (p + record_size) c)
+  put_same = rw (place_size, ← take-add p record_size c) (take-append-drop (p + record_size) c)
 
   stays : (b : Bool) → held r ≡ b → swept_place time r ≡ r → Swept time p c (cond b 1 0) c
   stays b h e = rw (e, h) (refl, sym put_same)
 
-  pub stays-empty : held r ≡ false → Swept time p c 0 c
+  pub stays_empty : held r ≡ false → Swept time p c 0 c
   unfolding swept_place expired
-  stays-empty h = stays false h (rw h)
+  stays_empty h = stays false h (rw h)
 
   pub lasts : held r ≡ true → time ≤ number_at 4 (p + expiry_at) c → Swept time p c 1 c
   unfolding swept_place expired
@@ -114,15 +114,15 @@ module _ (time from n : ℕ) (c₀ : List ℕ) where
   sweeping-none h l =
       record { long = refl; inside = h; few = omega arith; counted = omega arith; bytes = refl }
 
-  pub sweeping-more : (left at count m : ℕ) (c d : List ℕ) → Sweeping time from n c₀ left at count c → 0 < left →
+  pub sweeping_more : (left at count m : ℕ) (c d : List ℕ) → Sweeping time from n c₀ left at count c → 0 < left →
       Swept time at c m d → Sweeping time from n c₀ (left - 1) (at + record_size) (count + m) d
   unfolding records join present
-  sweeping-more zero at count m c d s h w = absurd (omega arith)
-  sweeping-more (suc left) at count m c d s h w =
+  sweeping_more zero at count m c d s h w = absurd (omega arith)
+  sweeping_more (suc left) at count m c d s h w =
       let q : ℕ = at + record_size in
       let r : List ℕ = swept_place time (take record_size (drop at c)) in
       let i : q ≤ length c = omega (arith, s.inside) in
-      let lr : length r ≡ record_size = swept_size time _ (place-size time at c i) in
+      let lr : length r ≡ record_size = swept_size time _ (place_size time at c i) in
       let ld : length d ≡ length c = ap length w.1 ∙ put-length at r c (omega arith) in
       let e : swept_from time left q d ≡ swept_from time left q c =
       ap (map (swept_place time))
@@ -138,11 +138,11 @@ module _ (time from n : ℕ) (c₀ : List ℕ) where
             ∙ rw (e, w.1) (sym (put-put at q r (join (swept_from time left q c)) c (omega arith) (omega arith)));
       })
 
-  pub sweeping-all : (left at count : ℕ) (c : List ℕ) → Sweeping time from n c₀ left at count c → left ≤ 0 →
+  pub sweeping_all : (left at count : ℕ) (c : List ℕ) → Sweeping time from n c₀ left at count c → left ≤ 0 →
       (count ≡ present (swept_from time n from c₀)) × (c ≡ put from (join (swept_from time n from c₀)) c₀)
   unfolding records join present
-  sweeping-all zero at count c s h = (omega (arith, s.counted), sym (s.bytes ∙ put-end at [] c refl))
-  sweeping-all (suc left) at count c s h = absurd (omega arith)
+  sweeping_all zero at count c s h = (omega (arith, s.counted), sym (s.bytes ∙ put-end at [] c refl))
+  sweeping_all (suc left) at count c s h = absurd (omega arith)
 
 -- ---- a judged container
 put_whole : (m r : List ℕ) → length m ≡ length r → put 0 r m ≡ r
@@ -157,21 +157,21 @@ module _ (p : Parts) (v : Valid p) (ls : List (List ℕ)) (many : length ls ≡ 
   abbrev more : List (List ℕ)
   more = drop fixed_places ls
 
-  four-size : length (join four) ≡ fixed_places * record_size
-  four-size =
+  four_size : length (join four) ≡ fixed_places * record_size
+  four_size =
       length-join four (each_take _ fixed_places ls sizes)
       ∙ rw (length-take-le fixed_places ls (omega (arith, v.four)))
 
-  more-size : length (join more) ≡ record_size * extras p.leases
+  more_size : length (join more) ≡ record_size * extras p.leases
   unfolding extras
-  more-size = length-join more (each-drop _ fixed_places ls sizes) ∙ rw (length-drop fixed_places ls, many)
+  more_size = length-join more (each_drop _ fixed_places ls sizes) ∙ rw (length-drop fixed_places ls, many)
 
-  head-all : put leases_at (join four) (head_of p) ≡ head_of (with_leases p ls)
+  head_all : put leases_at (join four) (head_of p) ≡ head_of (with_leases p ls)
   unfolding head_of front_of count_in with_leases
-  head-all =
+  head_all =
       put_right leases_at 0 (join four) (front_of p) (join (take fixed_places p.leases))
       (omega (arith, length_front p v))
-      ∙ ap (λ (x : List ℕ). front_of p ++ x) (put_whole _ (join four) (four_bytes p v ∙ sym four-size))
+      ∙ ap (λ (x : List ℕ). front_of p ++ x) (put_whole _ (join four) (four_bytes p v ∙ sym four_size))
 
   tail_all : put count_size (join more) (tail_of p) ≡ tail_of (with_leases p ls)
   unfolding tail_of with_leases extras
@@ -180,7 +180,7 @@ module _ (p : Parts) (v : Valid p) (ls : List (List ℕ)) (many : length ls ≡ 
       rw many
       (put_right count_size 0 (join more) n (join (drop fixed_places p.leases))
       (omega (arith, length_digits count_size (length p.leases - fixed_places)))
-      ∙ ap (λ (x : List ℕ). n ++ x) (put_whole _ (join more) (extra-bytes p v ∙ sym more-size)))
+      ∙ ap (λ (x : List ℕ). n ++ x) (put_whole _ (join more) (extra_bytes p v ∙ sym more_size)))
 
 -- all places are swept, with n leases left, and d are the bytes; the tail is still to be dropped
 pub record AllSwept (time : ℕ) (c : List ℕ) (f : Frame) (n : ℕ) (d : List ℕ) : Type 0 where
@@ -192,16 +192,16 @@ module _ (c : List ℕ) (f : Frame) (k : Known c f) (o : Octets c) where
   valid : Valid (parts_of c)
   valid = parts_valid c k.formed
 
-  laid-all : (ls : List (List ℕ)) → length ls ≡ length (leases_of c) → Each (λ r. length r ≡ record_size) ls →
+  laid_all : (ls : List (List ℕ)) → length ls ≡ length (leases_of c) → Each (λ r. length r ≡ record_size) ls →
       Leased c f k o ls (tail_size f.extras)
       (put (extras_at f.offset) (join (drop fixed_places ls)) (put leases_at (join (take fixed_places ls)) c))
   unfolding parts_of
-  laid-all ls many sizes =
-      let w = put-head (formed-laid c f k o) leases_at (join (take fixed_places ls))
-      (omega (arith, four-size (parts_of c) valid ls many sizes)) in
-      rw (← head-all (parts_of c) valid ls many sizes, ← tail_all (parts_of c) valid ls many sizes)
+  laid_all ls many sizes =
+      let w = put-head (formed_laid c f k o) leases_at (join (take fixed_places ls))
+      (omega (arith, four_size (parts_of c) valid ls many sizes)) in
+      rw (← head_all (parts_of c) valid ls many sizes, ← tail_all (parts_of c) valid ls many sizes)
       (put-tail w (extras_at f.offset) count_size (join (drop fixed_places ls)) refl
-      (omega (arith, more-size (parts_of c) valid ls many sizes, extras-framed k)))
+      (omega (arith, more_size (parts_of c) valid ls many sizes, extras_framed k)))
 
   module _ (time : ℕ) where
     abbrev all : List (List ℕ)
@@ -216,17 +216,17 @@ module _ (c : List ℕ) (f : Frame) (k : Known c f) (o : Octets c) where
     all_are : all ≡ first ++ others
     unfolding leases_of
     all_are =
-        rw (frame-count k, frame-extras k)
+        rw (frame_count k, frame_extras k)
         (map-append (swept_place time) (records fixed_places leases_at c) (records (extras_of c) (extras_at (count_at c)) c))
 
-    first-long : length first ≡ fixed_places
-    first-long = length-map (records fixed_places leases_at c) (swept_place time) ∙ length-records fixed_places leases_at c
+    first_long : length first ≡ fixed_places
+    first_long = length-map (records fixed_places leases_at c) (swept_place time) ∙ length-records fixed_places leases_at c
 
-    first-are : take fixed_places all ≡ first
-    first-are = rw all_are (take_at first others fixed_places first-long)
+    first_are : take fixed_places all ≡ first
+    first_are = rw all_are (take_at first others fixed_places first_long)
 
-    others-are : drop fixed_places all ≡ others
-    others-are = rw all_are (drop_at first others fixed_places first-long)
+    others_are : drop fixed_places all ≡ others
+    others_are = rw all_are (drop_at first others fixed_places first_long)
 
     sound : Each Place all
     unfolding parts_of
@@ -239,29 +239,29 @@ module _ (c : List ℕ) (f : Frame) (k : Known c f) (o : Octets c) where
     counts = sym (ap present all_are ∙ present-append first others)
 
     -- the four are swept first, which leaves the extras as they are
-    others-stay : swept_from time f.extras (extras_at f.offset) (put leases_at (join first) c) ≡ others
+    others_stay : swept_from time f.extras (extras_at f.offset) (put leases_at (join first) c) ≡ others
     unfolding parts_of
-    others-stay =
+    others_stay =
         let l : length (join first) ≡ fixed_places * record_size =
-        rw first-are at (four-size (parts_of c) valid all as_many (places_sizes all sound)) in
+        rw first_are at (four_size (parts_of c) valid all as_many (places_sizes all sound)) in
         let z = known_sized c f k in
         ap (map (swept_place time))
         (records-beyond f.extras (extras_at f.offset) leases_at (join first) c (omega arith) (omega arith))
 
     -- the four, with x leases left, then the extras, with y
-    pub all-swept : (x y q : ℕ) (d e : List ℕ) → (x ≡ present first) × (d ≡ put leases_at (join first) c) →
+    pub all_swept : (x y q : ℕ) (d e : List ℕ) → (x ≡ present first) × (d ≡ put leases_at (join first) c) →
         q ≡ extras_at f.offset →
         (y ≡ present (swept_from time f.extras q d)) × (e ≡ put q (join (swept_from time f.extras q d)) d) →
         AllSwept time c f (x + y) e
     unfolding swept
-    all-swept x y q d e g h w =
-        let u : swept_from time f.extras q d ≡ others = rw (h, g.1) others-stay in
-        let t = rw (others-are, first-are) at (laid-all all as_many (places_sizes all sound)) in
+    all_swept x y q d e g h w =
+        let u : swept_from time f.extras q d ≡ others = rw (h, g.1) others_stay in
+        let t = rw (others_are, first_are) at (laid_all all as_many (places_sizes all sound)) in
         let n : x + y ≡ present all = ap₂ ◌+◌ g.0 (w.0 ∙ ap present u) ∙ counts in
         record {
           few = omega (arith, present_most all, as_many, known_places c f k, (known_sized c f k).few);
           counts = n ∙ sym (present-drop_tail all);
-          leaves = drop-tail c f k o all as_many sound e (rw (w.1, u, h, g.1) t);
+          leaves = drop_tail_lem c f k o all as_many sound e (rw (w.1, u, h, g.1) t);
         }
 
 -- ---- what is answered

@@ -52,9 +52,9 @@ module _ (c : List ℕ) (t : List LeaseRow) where
   abbrev count : ℕ
   count = (audit_answer c n).count
 
-  is-outcome : (k : ℕ) → audit_outcome c n ≡ k → number ≡ k
+  is_outcome : (k : ℕ) → audit_outcome c n ≡ k → number ≡ k
   unfolding audit_answer audit_to
-  is-outcome k e = e
+  is_outcome k e = e
 
   -- ---- what becomes of the table
   pub record Left : Type 0 where
@@ -65,9 +65,9 @@ module _ (c : List ℕ) (t : List LeaseRow) where
     pub beyond : drop count (audit_table c t) ≡ drop count t
     pub table_length : length (audit_table c t) ≡ n
 
-  left-refused : (k : ℕ) → audit_outcome c n ≡ k → 0 < k → Left
+  left_refused : (k : ℕ) → audit_outcome c n ≡ k → 0 < k → Left
   unfolding audit_table table_to audit_answer audit_to
-  left-refused k e h =
+  left_refused k e h =
       let z : eqb k 0 ≡ false = ne_eqb k 0 (λ q. omega (arith, h, q)) in
       let same : audit_table c t ≡ t = rw (e, z) in
       let none : count ≡ 0 = rw (e, z) in
@@ -80,9 +80,9 @@ module _ (c : List ℕ) (t : List LeaseRow) where
         table_length = ap length same;
       }
 
-  left-done : m ≤ n → audit_outcome c n ≡ 0 → Left
+  left_done : m ≤ n → audit_outcome c n ≡ 0 → Left
   unfolding audit_table table_to audit_answer audit_to parts_of rows_of
-  left-done f e =
+  left_done f e =
       let l : length (rows_of (leases_of c)) ≡ m = length-rows (leases_of c) in
       let all : count ≡ m = rw e in
       let filled : audit_table c t ≡ rows_of (leases_of c) ++ drop m t = rw e in
@@ -118,29 +118,29 @@ module _ (c : List ℕ) (t : List LeaseRow) where
   by_end : Ends c n → DemandAudit c t
   unfolding any_of
   by_end (bad_length a e) =
-      let k : number ≡ 1 = is-outcome 1 e in
-      demand (left-refused 1 e (omega arith)) (rw k refl)
+      let k : number ≡ 1 = is_outcome 1 e in
+      demand (left_refused 1 e (omega arith)) (rw k refl)
       (other 1 0 k (λ q. omega (arith, q)) (λ x. not_both c x.formed a))
       (given 1 k a)
       (other 1 2 k (λ q. omega (arith, q)) (λ x. false≢true (sym a ∙ x.0)))
       (other 1 7 k (λ q. omega (arith, q)) (λ x. not_both c x.0 a))
   by_end (malformed a w e) =
-      let k : number ≡ 2 = is-outcome 2 e in
-      demand (left-refused 2 e (omega arith)) (rw k refl)
+      let k : number ≡ 2 = is_outcome 2 e in
+      demand (left_refused 2 e (omega arith)) (rw k refl)
       (other 2 0 k (λ q. omega (arith, q)) (λ x. false≢true (sym w ∙ x.formed)))
       (other 2 1 k (λ q. omega (arith, q)) (λ x. true≢false (sym a ∙ x)))
       (given 2 k (a, w))
       (other 2 7 k (λ q. omega (arith, q)) (λ x. false≢true (sym w ∙ x.0)))
   by_end (too_short w h e) =
-      let k : number ≡ 7 = is-outcome 7 e in
-      demand (left-refused 7 e (omega arith)) (rw k refl)
+      let k : number ≡ 7 = is_outcome 7 e in
+      demand (left_refused 7 e (omega arith)) (rw k refl)
       (other 7 0 k (λ q. omega (arith, q)) (λ x. omega (arith, h, x.rows_fit)))
       (other 7 1 k (λ q. omega (arith, q)) (not_both c w))
       (other 7 2 k (λ q. omega (arith, q)) (λ x. true≢false (sym w ∙ x.1)))
       (given 7 k (w, h))
   by_end (done w f e) =
-      let k : number ≡ 0 = is-outcome 0 e in
-      demand (left-done f e) (rw k refl)
+      let k : number ≡ 0 = is_outcome 0 e in
+      demand (left_done f e) (rw k refl)
       (given 0 k (record { formed = w; rows_fit = f }))
       (other 0 1 k (λ q. omega (arith, q)) (not_both c w))
       (other 0 2 k (λ q. omega (arith, q)) (λ x. true≢false (sym w ∙ x.1)))

@@ -13,7 +13,7 @@ use Rattle.format.specs.Layout.{leases_of}
 use Rattle.format.specs.Container.{held, length_allowed, well_formed}
 use Rattle.format.specs.Parts.{Parts, parts_of, encode}
 use Rattle.format.specs.Claims.{Valid}
-use Rattle.format.proofs.RoundTrip.{encode-formed, parts-encode}
+use Rattle.format.proofs.RoundTrip.{encode_formed, parts_encode}
 use Rattle.rules.specs.Leasing.{present}
 use Rattle.rules.specs.Outcomes.{answer_of, no_node}
 use Rattle.rules.proofs.OutcomeLaws.{formed_length}
@@ -26,7 +26,7 @@ unfolding audit_outcome first_row
 audit_formed c n w = rw (formed_length c w, w)
 
 pub audit_encode : (p : Parts) (n : ℕ) → Valid p → audit_outcome (encode p) n ≡ first_row (table_rows p n)
-audit_encode p n v = audit_formed (encode p) n (encode-formed p v) ∙ rw (parts-encode p v)
+audit_encode p n v = audit_formed (encode p) n (encode_formed p v) ∙ rw (parts_encode p v)
 
 -- the numbers of an audit end with 7
 audit_most : (c : List ℕ) (n : ℕ) → audit_outcome c n ≤ 7
@@ -77,9 +77,9 @@ module _ (c : List ℕ) (n : ℕ) where
   unfolding audit_answer audit_outcome audit_to first_row
   answer-malformed l w = rw (l, w)
 
-  pub answer-narrow : well_formed c ≡ true → n < present (leases_of c) → answer_of 7 no_node 0 ≡ audit_answer c n
+  pub answer_narrow : well_formed c ≡ true → n < present (leases_of c) → answer_of 7 no_node 0 ≡ audit_answer c n
   unfolding audit_answer audit_outcome audit_to first_row parts_of
-  answer-narrow w h = rw (formed_length c w, w, lt-ltb n (present (leases_of c)) h)
+  answer_narrow w h = rw (formed_length c w, w, lt-ltb n (present (leases_of c)) h)
 
   pub answer-done : well_formed c ≡ true → present (leases_of c) ≤ n
       → answer_of 0 no_node (present (leases_of c)) ≡ audit_answer c n

@@ -12,7 +12,7 @@ use Rattle.octets.specs.Facts.{Each}
 use Rattle.octets.specs.Lists.{only}
 use Rattle.octets.specs.Numbers.{number_after, number, number_at}
 use Rattle.octets.specs.Strings.{all_zero}
-use Rattle.octets.proofs.ListLaws.{each_append, each_take, each-drop}
+use Rattle.octets.proofs.ListLaws.{each_append, each_take, each_drop}
 use Rattle.octets.proofs.StringLaws.{zeros_are}
 use Rattle.format.specs.Layout.{record_size, fixed_places, owner_of, expiry_of}
 use Rattle.format.specs.Container.{held, record_ok, last_held}
@@ -130,14 +130,14 @@ at_drop_tail ls i l e = go (ltb i fixed_places) refl
         let z : i ≡ length a + j = omega (arith, four, h) in
         let y : fixed_places + j ≡ i = omega (arith, h) in
         ap (λ (k : ℕ). get_or (a ++ b) k no_lease) z ∙ get_or-append-add a b j no_lease
-        ∙ at_trim (drop fixed_places ls) j (each-drop Place fixed_places ls e)
+        ∙ at_trim (drop fixed_places ls) j (each_drop Place fixed_places ls e)
         ∙ get_or-drop fixed_places ls j no_lease ∙ ap (λ (k : ℕ). get_or ls k no_lease) y
 
 pub each_drop_tail : (P : List ℕ → Type 0) (ls : List (List ℕ)) → Each P ls → Each P (drop_tail ls)
 unfolding drop_tail
 each_drop_tail P ls e =
     each_append P (take fixed_places ls) (trim (drop fixed_places ls)) (each_take P fixed_places ls e)
-    (each_trim P (drop fixed_places ls) (each-drop P fixed_places ls e))
+    (each_trim P (drop fixed_places ls) (each_drop P fixed_places ls e))
 
 -- where the last place holds a lease nothing is dropped
 trim-held : (ls : List (List ℕ)) → last_held ls ≡ true → trim ls ≡ ls

@@ -31,7 +31,7 @@ use Rattle.upkeep_rules.proofs.AuditLaws.{audit_formed, length-held}
 use Rattle.upkeep_rules.proofs.SweepLaws.{sweep_formed}
 use Rattle.upkeep_rules.proofs.LeftLaws.{only-drop_tail, only-swept}
 use Rattle.upkeep_rules.proofs.Audit.{demand_audit}
-use Rattle.upkeep_rules.proofs.Sweep.{sweeps, leases-swept, swept-formed}
+use Rattle.upkeep_rules.proofs.Sweep.{sweeps, leases_swept, swept_formed}
 
 -- ---- a row and its record
 record_row : (r : List ℕ) → length r ≡ record_size → Octets r → record_of (row_of r) ≡ r
@@ -129,13 +129,13 @@ slack_unseen b c time s =
     let x = sweeps b s.formed_b time in
     let y = sweeps c s.formed_c time in
     record {
-      formed_b = swept-formed b s.formed_b time;
-      formed_c = swept-formed c s.formed_c time;
+      formed_b = swept_formed b s.formed_b time;
+      formed_c = swept_formed c s.formed_c time;
       node = x.node ∙ s.node ∙ sym y.node;
       enabler = x.enabler ∙ s.enabler ∙ sym y.enabler;
       bytes = x.bytes ∙ s.bytes ∙ sym y.bytes;
-      leases = leases-swept b s.formed_b time ∙ ap (swept time) s.leases
-          ∙ sym (leases-swept c s.formed_c time);
+      leases = leases_swept b s.formed_b time ∙ ap (swept time) s.leases
+          ∙ sym (leases_swept c s.formed_c time);
     }
 
 -- WHAT A SWEEP TELLS

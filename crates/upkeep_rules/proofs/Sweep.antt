@@ -15,7 +15,7 @@ use Rattle.format.specs.Layout.{leases_of, expiry_of, count_at, data_of, slack_o
 use Rattle.format.specs.Container.{length_allowed, held, well_formed}
 use Rattle.format.specs.Parts.{Parts, count_in, parts_of, encode, no_lease}
 use Rattle.format.specs.Claims.{Valid}
-use Rattle.format.proofs.RoundTrip.{leases-encode, parts-encode, encode-formed, encode_parts, parts_valid}
+use Rattle.format.proofs.RoundTrip.{leases_encode, parts_encode, encode_formed, encode_parts, parts_valid}
 use Rattle.format.proofs.RoundTrip.{parts_count}
 use Rattle.rules.specs.Leasing.{drop_tail, present}
 use Rattle.rules.specs.Outcomes.{with_leases}
@@ -41,45 +41,45 @@ module _ (c : List ℕ) (w : well_formed c ≡ true) (time : ℕ) where
   valid_after : Valid p
   valid_after = swept_valid time (parts_of c) valid
 
-  pub swept-is : swept_container c time ≡ encode p
+  pub swept_is : swept_container c time ≡ encode p
   unfolding swept_container
-  swept-is = rw (sweep_formed c w)
+  swept_is = rw (sweep_formed c w)
 
-  pub leases-swept : leases_of (swept_container c time) ≡ swept time ls
+  pub leases_swept : leases_of (swept_container c time) ≡ swept time ls
   unfolding after_sweep with_leases parts_of
-  leases-swept = ap leases_of swept-is ∙ leases-encode p valid_after
+  leases_swept = ap leases_of swept_is ∙ leases_encode p valid_after
 
-  pub parts-swept : parts_of (swept_container c time) ≡ with_leases (parts_of c) (swept time ls)
+  pub parts_swept : parts_of (swept_container c time) ≡ with_leases (parts_of c) (swept time ls)
   unfolding after_sweep parts_of
-  parts-swept = ap parts_of swept-is ∙ parts-encode p valid_after
+  parts_swept = ap parts_of swept_is ∙ parts_encode p valid_after
 
-  pub swept-formed : well_formed (swept_container c time) ≡ true
-  swept-formed = ap well_formed swept-is ∙ encode-formed p valid_after
+  pub swept_formed : well_formed (swept_container c time) ≡ true
+  swept_formed = ap well_formed swept_is ∙ encode_formed p valid_after
 
-  count-swept : count_at (swept_container c time) ≡ count_at c
+  count_swept : count_at (swept_container c time) ≡ count_at c
   unfolding count_in with_leases
-  count-swept =
-      sym (parts_count (swept_container c time) swept-formed) ∙ ap count_in parts-swept ∙ parts_count c w
+  count_swept =
+      sym (parts_count (swept_container c time) swept_formed) ∙ ap count_in parts_swept ∙ parts_count c w
 
   pub sweeps : Sweeps c time
   unfolding parts_of with_leases swept after_sweep sweep_answer sweep_to
   sweeps = record {
-    none_below = rw leases-swept
+    none_below = rw leases_swept
         (each_drop_tail (λ r. held r ≡ true → time ≤ expiry_of r) (map (swept_place time) ls) (each_above time ls));
-    places = λ i. rw leases-swept
+    places = λ i. rw leases_swept
         (at_drop_tail (map (swept_place time) ls) i (rw (length-map ls (swept_place time)) valid.four)
         (places_swept time ls valid.places)
         ∙ at_swept time ls i);
-    left = rw leases-swept (only-drop_tail (map (swept_place time) ls) ∙ only-swept time ls);
-    count = rw (sweep_formed c w, leases-swept);
-    tail = rw leases-swept valid_after.last;
-    bytes = ap (λ (x : Parts). x.bytes) parts-swept;
-    slack = ap (λ (x : Parts). x.slack) parts-swept;
-    count_at_holds = count-swept;
-    node = ap (λ (x : Parts). x.node) parts-swept;
-    enabler = ap (λ (x : Parts). x.enabler) parts-swept;
-    parts = parts-swept;
-    nothing = λ o e. swept-is
+    left = rw leases_swept (only-drop_tail (map (swept_place time) ls) ∙ only-swept time ls);
+    count = rw (sweep_formed c w, leases_swept);
+    tail = rw leases_swept valid_after.last;
+    bytes = ap (λ (x : Parts). x.bytes) parts_swept;
+    slack = ap (λ (x : Parts). x.slack) parts_swept;
+    count_at_holds = count_swept;
+    node = ap (λ (x : Parts). x.node) parts_swept;
+    enabler = ap (λ (x : Parts). x.enabler) parts_swept;
+    parts = parts_swept;
+    nothing = λ o e. swept_is
         ∙ rw (none-swept time ls e, drop_tail-held ls valid.last) (encode_parts c w o);
   }
 
@@ -88,9 +88,9 @@ module _ (c : List ℕ) (time : ℕ) where
   abbrev number : ℕ
   number = (sweep_answer c time).number
 
-  is-outcome : (k : ℕ) → sweep_outcome c ≡ k → number ≡ k
+  is_outcome : (k : ℕ) → sweep_outcome c ≡ k → number ≡ k
   unfolding sweep_answer sweep_to
-  is-outcome k e = e
+  is_outcome k e = e
 
   refusal : (k : ℕ) → sweep_outcome c ≡ k → 0 < k → (well_formed c ≡ true → ⊥) → Among number (0 ∷ 1 ∷ 2 ∷ []) →
       (number ≡ 1) ↔ (length_allowed c ≡ false) →
@@ -123,7 +123,7 @@ module _ (c : List ℕ) (time : ℕ) where
       refusal 2 e (omega arith) (λ f. false≢true (sym ew ∙ f)) (rw (ea, ew) refl)
       (other 2 1 e (λ q. omega (arith, q)) (λ x. true≢false (sym ea ∙ x))) (given 2 e (ea, ew))
   by_tests true true ea ew =
-      let e : number ≡ 0 = is-outcome 0 (sweep_formed c ew) in
+      let e : number ≡ 0 = is_outcome 0 (sweep_formed c ew) in
       record {
         number = rw e refl;
         exactly = given 0 e ew;
@@ -132,8 +132,8 @@ module _ (c : List ℕ) (time : ℕ) where
         refused = λ n. absurd (n e);
         uncounted = λ n. absurd (n e);
         sweeps = λ w. sweeps c w time;
-        container_length = ap (λ (x : Parts). x.room) (parts-swept c ew time);
-        stays_formed = λ w. swept-formed c w time;
+        container_length = ap (λ (x : Parts). x.room) (parts_swept c ew time);
+        stays_formed = λ w. swept_formed c w time;
         no_node_holds = refl;
       }
 

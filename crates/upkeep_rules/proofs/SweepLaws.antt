@@ -12,7 +12,7 @@ use Rattle.octets.specs.Rows.{first_row}
 use Rattle.format.specs.Container.{length_allowed, well_formed}
 use Rattle.format.specs.Parts.{Parts, encode, no_lease}
 use Rattle.format.specs.Claims.{Place, Valid}
-use Rattle.format.proofs.RoundTrip.{encode-formed, no_lease_lem}
+use Rattle.format.proofs.RoundTrip.{encode_formed, no_lease_lem}
 use Rattle.rules.specs.Leasing.{drop_tail}
 use Rattle.rules.proofs.OutcomeLaws.{formed_length}
 use Rattle.rules.proofs.Kept.{leases_kept, used_fewer, dropped_ordered, length_dropped}
@@ -24,7 +24,7 @@ unfolding sweep_outcome first_row
 sweep_formed c w = rw (formed_length c w, w)
 
 pub sweep_encode : (p : Parts) → Valid p → sweep_outcome (encode p) ≡ 0
-sweep_encode p v = sweep_formed (encode p) (encode-formed p v)
+sweep_encode p v = sweep_formed (encode p) (encode_formed p v)
 
 -- the numbers of a sweep end with 2
 sweep_most : (c : List ℕ) → sweep_outcome c ≤ 2

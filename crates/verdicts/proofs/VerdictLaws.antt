@@ -28,7 +28,7 @@ use Rattle.format.specs.Parts.{parts_of, used, Parts}
 use Rattle.replies.specs.Pieces.{pieces_in, measured_of}
 use Rattle.writes.specs.Rewrite.{Final}
 use Rattle.rules.specs.Testing.{resolves, test_piece, holds, position}
-use Rattle.format.proofs.KnownLaws.{frame-count, frame-extras, data-framed}
+use Rattle.format.proofs.KnownLaws.{frame_count, frame_extras, data_framed}
 use Rattle.rules.proofs.Kept.{after_valid, used-rewritten}
 use Rattle.rules.proofs.WriteLaws.{length-cut_to, length-write_all}
 use Rattle.octets.specs.Strings.{same}
@@ -80,7 +80,7 @@ after-used : (c q : List ℕ) (f : Frame) (t : Parted) (s : ℕ) → Known c f
 unfolding after
 after-used c q f t s k e =
     used-rewritten c (rewritten (writes_in t q) (cut_in t.cut) (parts_of c).bytes) k.formed
-    ∙ rw (← frame-count k, ← frame-extras k) (ap (λ (n : ℕ). used_length (moved_count f.offset n) f.extras)
+    ∙ rw (← frame_count k, ← frame_extras k) (ap (λ (n : ℕ). used_length (moved_count f.offset n) f.extras)
     (bytes_after c q t ∙ e))
 
 -- ---- the verdict by what the code finds
@@ -99,31 +99,31 @@ module _ {c q d : List ℕ} {f : Frame} {t : Parted} {m : Measured} {x : Reached
   abbrev asks : Request
   asks = write_in t q
 
-  final-is : length (after (parts_of c) asks).bytes ≡ s
+  final_is : length (after (parts_of c) asks).bytes ≡ s
   unfolding final_size parts_of
-  final-is = after_size (parts_of c) q t ∙ rw (data-framed F.known) (sym (F.final ∙ rw F.reached))
+  final_is = after_size (parts_of c) q t ∙ rw (data_framed F.known) (sym (F.final ∙ rw F.reached))
 
   pieces_are : pieces_in t.tests q d ≡ map (test_piece (data_of c)) (tests_in t q)
   pieces_are =
       rw (F.bytes, F.parted.tests_stride)
       (sym (test_pieces t.tests.count t.tests.first.at t.specimens.at q (data_of c)))
 
-  reply-is : length (reply_to (parts_of c) asks) ≡ m.length
+  reply_is : length (reply_to (parts_of c) asks) ≡ m.length
   unfolding reply_to parts_of
-  reply-is = sym (ap (λ (y : Measured). y.length) F.measured ∙ rw pieces_are)
+  reply_is = sym (ap (λ (y : Measured). y.length) F.measured ∙ rw pieces_are)
 
-  resolves-is : (every (λ u. resolves u.offset (length (data_of c))) (tests_in t q)
+  resolves_is : (every (λ u. resolves u.offset (length (data_of c))) (tests_in t q)
       && writes_resolve (writes_in t q) (length (data_of c))) ≡ (m.resolves && x.resolves)
-  resolves-is =
-      rw (data-framed F.known, F.measured, F.reached, F.bytes, F.parted.tests_stride, data-framed F.known)
+  resolves_is =
+      rw (data_framed F.known, F.measured, F.reached, F.bytes, F.parted.tests_stride, data_framed F.known)
       (ap (λ (b : Bool). b && writes_resolve (writes_in t q) f.size)
       (test_resolve t.tests.count t.tests.first.at t.specimens.at q f.size))
 
   used-after : used (after (parts_of c) asks) ≡ used_length (moved_count f.offset s) f.extras
-  used-after = after-used c q f t s F.known final-is
+  used-after = after-used c q f t s F.known final_is
 
-  pub final-bound : (s ≤ x.size) × (x.size ≤ 2147483647 + f.size + length q)
-  final-bound = (
+  pub final_bound : (s ≤ x.size) × (x.size ≤ 2147483647 + f.size + length q)
+  final_bound = (
     omega (arith, F.final, cut_bound (cut_in t.cut) x.size),
     omega (
       arith,
@@ -147,65 +147,65 @@ module _ {c q d : List ℕ} {f : Frame} {t : Parted} {m : Measured} {x : Reached
 
     rows_are : rows (parts_of c) asks space ++ room_rows (parts_of c) asks ≡ (admits ++ finds) ++ fits
     unfolding rows admit_rows find_rows room_rows parts_of
-    rows_are = rw (resolves-is, reply-is, used-after, F.bytes)
+    rows_are = rw (resolves_is, reply_is, used-after, F.bytes)
 
-    verdict-is : (k : ℕ) → k ≡ first_row ((admits ++ finds) ++ fits)
+    verdict_is : (k : ℕ) → k ≡ first_row ((admits ++ finds) ++ fits)
         → record { number = k; reply = m.length; size = s } ≡ verdict_of (parts_of c) asks space
     unfolding verdict_of
-    verdict-is k e = sym (rw (rows_are, reply-is, final-is, e))
+    verdict_is k e = sym (rw (rows_are, reply_is, final_is, e))
 
-    admits-numbered : Numbered admits
-    admits-numbered = (omega arith, (omega arith, tt))
+    admits_numbered : Numbered admits
+    admits_numbered = (omega arith, (omega arith, tt))
 
-    both-numbered : Numbered (admits ++ finds)
-    both-numbered = (omega arith, (omega arith, (omega arith, (omega arith, tt))))
+    both_numbered : Numbered (admits ++ finds)
+    both_numbered = (omega arith, (omega arith, (omega arith, (omega arith, tt))))
 
-    pub admit-verdict : (k : ℕ) → k ≡ first_row admits → (k ≡ 0 → ⊥)
+    pub admit_verdict : (k : ℕ) → k ≡ first_row admits → (k ≡ 0 → ⊥)
         → record { number = k; reply = m.length; size = s } ≡ verdict_of (parts_of c) asks space
-    admit-verdict k e h =
-        let a : first_row (admits ++ finds) ≡ k = rows_first admits finds admits-numbered (λ z. h (e ∙ z)) ∙ sym e in
-        verdict-is k (sym (rows_first (admits ++ finds) fits both-numbered (λ z. h (sym a ∙ z)) ∙ a))
+    admit_verdict k e h =
+        let a : first_row (admits ++ finds) ≡ k = rows_first admits finds admits_numbered (λ z. h (e ∙ z)) ∙ sym e in
+        verdict_is k (sym (rows_first (admits ++ finds) fits both_numbered (λ z. h (sym a ∙ z)) ∙ a))
 
     module _ (j : ℕ) (i : j ≡ first_row admits) (z : j ≡ 0) where
-      after-admit : first_row (admits ++ finds) ≡ first_row finds
-      after-admit = rows_second admits finds admits-numbered (sym i ∙ z)
+      after_admit : first_row (admits ++ finds) ≡ first_row finds
+      after_admit = rows_second admits finds admits_numbered (sym i ∙ z)
 
-      pub find-verdict : (k : ℕ) → k ≡ first_row finds → (k ≡ 0 → ⊥)
+      pub find_verdict : (k : ℕ) → k ≡ first_row finds → (k ≡ 0 → ⊥)
           → record { number = k; reply = m.length; size = s } ≡ verdict_of (parts_of c) asks space
-      find-verdict k e h =
-          let a : first_row (admits ++ finds) ≡ k = after-admit ∙ sym e in
-          verdict-is k (sym (rows_first (admits ++ finds) fits both-numbered (λ y. h (sym a ∙ y)) ∙ a))
+      find_verdict k e h =
+          let a : first_row (admits ++ finds) ≡ k = after_admit ∙ sym e in
+          verdict_is k (sym (rows_first (admits ++ finds) fits both_numbered (λ y. h (sym a ∙ y)) ∙ a))
 
-      pub fit-verdict : (l k : ℕ) → l ≡ first_row finds → l ≡ 0 → k ≡ first_row fits
+      pub fit_verdict : (l k : ℕ) → l ≡ first_row finds → l ≡ 0 → k ≡ first_row fits
           → record { number = k; reply = m.length; size = s } ≡ verdict_of (parts_of c) asks space
-      fit-verdict l k e h g =
-          verdict-is k
-          (sym (rows_second (admits ++ finds) fits both-numbered (after-admit ∙ sym e ∙ h) ∙ sym g))
+      fit_verdict l k e h g =
+          verdict_is k
+          (sym (rows_second (admits ++ finds) fits both_numbered (after_admit ∙ sym e ∙ h) ∙ sym g))
 
 -- ---- a verdict that is known
 module _ {c q : List ℕ} {f : Frame} {t : Parted} {v : Verdict} (D : Decided c q f t v) where
-  number-decided : v.number
+  number_decided : v.number
       ≡ first_row (rows (parts_of c) (write_in t q) D.space ++ room_rows (parts_of c) (write_in t q))
   unfolding verdict_of
-  number-decided = ap (λ (x : Verdict). x.number) D.verdict
+  number_decided = ap (λ (x : Verdict). x.number) D.verdict
 
-  size-decided : v.size ≡ length (after (parts_of c) (write_in t q)).bytes
+  size_decided : v.size ≡ length (after (parts_of c) (write_in t q)).bytes
   unfolding verdict_of
-  size-decided = ap (λ (x : Verdict). x.size) D.verdict
+  size_decided = ap (λ (x : Verdict). x.size) D.verdict
 
-  used-decided : used (after (parts_of c) (write_in t q)) ≡ used_length (moved_count f.offset v.size) f.extras
-  used-decided = after-used c q f t v.size D.known (sym size-decided)
+  used_decided : used (after (parts_of c) (write_in t q)) ≡ used_length (moved_count f.offset v.size) f.extras
+  used_decided = after-used c q f t v.size D.known (sym size_decided)
 
-  fits-decided : v.number ≡ 0 → used (after (parts_of c) (write_in t q)) ≤ length c
+  fits_decided : v.number ≡ 0 → used (after (parts_of c) (write_in t q)) ≤ length c
   unfolding after with_bytes parts_of
-  fits-decided e =
-      (after_valid (parts_of c) (write_in t q) D.space (parts_valid c D.known.formed) tt (sym number-decided
+  fits_decided e =
+      (after_valid (parts_of c) (write_in t q) D.space (parts_valid c D.known.formed) tt (sym number_decided
       ∙ e)).fits
 
   -- A verdict of 0 has room for the final size.
   pub room : v.number ≡ 0 → Final q t f v.size (length c)
   unfolding parts_of
   room e = record {
-    size = size-decided ∙ after_size (parts_of c) q t ∙ rw (data-framed D.known);
-    fits = rw used-decided at (fits-decided e);
+    size = size_decided ∙ after_size (parts_of c) q t ∙ rw (data_framed D.known);
+    fits = rw used_decided at (fits_decided e);
   }

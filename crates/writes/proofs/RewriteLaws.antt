@@ -22,12 +22,12 @@ use Rattle.writes.specs.Rewrite.{with_size, overlaid, freed}
 
 -- ---- the fields
 module _ {n o k : ℕ} {c h d t : List ℕ} (L : Laid n o k c h d t) where
-  pub size-laid : (u : ℕ) → Laid n o k (put size_at (digits size_width u) c) (with_size u h) d t
+  pub size_laid : (u : ℕ) → Laid n o k (put size_at (digits size_width u) c) (with_size u h) d t
   unfolding with_size
-  size-laid u = put-head L size_at (digits size_width u) (rw length_digits (omega arith))
+  size_laid u = put-head L size_at (digits size_width u) (rw length_digits (omega arith))
 
-  pub offset-laid : (v : ℕ) → Laid n o k (put offset_at (digits size_width v) c) (put offset_at (digits size_width v) h) d t
-  offset-laid v = put-head L offset_at (digits size_width v) (rw length_digits (omega arith))
+  pub offset_laid : (v : ℕ) → Laid n o k (put offset_at (digits size_width v) c) (put offset_at (digits size_width v) h) d t
+  offset_laid v = put-head L offset_at (digits size_width v) (rw length_digits (omega arith))
 
 module _ (n o k : ℕ) (c h d t ys : List ℕ) (L : Laid n o k c h d t) where
   -- ---- a part of data and slack, from place a up to place e
@@ -49,14 +49,14 @@ module _ (n o k : ℕ) (c h d t ys : List ℕ) (L : Laid n o k c h d t) where
     unfolding rest
     part_is = L.is ∙ ap (λ (l : List ℕ). h ++ (l ++ rest)) (sym split) ∙ simp append_assoc
 
-    before-long : length (h ++ take x d) ≡ a
-    before-long = simp (length-append, length-take) (omega (arith, L.head, L.upto))
+    before_long : length (h ++ take x d) ≡ a
+    before_long = simp (length-append, length-take) (omega (arith, L.head, L.upto))
 
-    middle-long : a + length middle ≡ e
-    middle-long = simp (length-take, length-drop) (omega (arith, L.upto))
+    middle_long : a + length middle ≡ e
+    middle_long = simp (length-take, length-drop) (omega (arith, L.upto))
 
-    pub part-lent : mid_of a (e - a) c ≡ middle
-    part-lent = lent_is a e c (h ++ take x d) middle (drop y d ++ rest) part_is before-long middle-long
+    pub part_lent : mid_of a (e - a) c ≡ middle
+    part_lent = lent_is a e c (h ++ take x d) middle (drop y d ++ rest) part_is before_long middle_long
 
     -- it comes back as long as it was
     pub part_back : (zs : List ℕ) → ys ≡ zs → length zs ≡ y - x
@@ -64,7 +64,7 @@ module _ (n o k : ℕ) (c h d t ys : List ℕ) (L : Laid n o k c h d t) where
     unfolding rest
     part_back zs q lz = record {
       is =
-          lent_back a e c (h ++ take x d) middle (drop y d ++ rest) part_is before-long middle-long ys
+          lent_back a e c (h ++ take x d) middle (drop y d ++ rest) part_is before_long middle_long ys
           ∙ rw q (simp append_assoc);
       head = L.head;
       upto = simp (length-append, length-take, length-drop) (omega (arith, L.upto));
@@ -73,25 +73,25 @@ module _ (n o k : ℕ) (c h d t ys : List ℕ) (L : Laid n o k c h d t) where
     }
 
   -- ---- the writes
-  pub data-laid : (f : ℕ) (ws : List Placed) → data_at + f ≤ o
+  pub data_laid : (f : ℕ) (ws : List Placed) → data_at + f ≤ o
       → ys ≡ write_all (map (clip (length (mid_of data_at (data_at + f - data_at) c))) ws)
       (mid_of data_at (data_at + f - data_at) c)
       → Laid n o k (put_mid data_at (data_at + f - data_at) c ys) h (overlaid ws f d) t
   unfolding overlaid
-  data-laid f ws w y =
+  data_laid f ws w y =
       let z : f - 0 ≡ f = omega arith in
       let l : mid_of data_at (data_at + f - data_at) c ≡ take f d =
-      part-lent data_at (data_at + f) 0 f (omega arith) (omega arith) (omega arith) w ∙ rw z in
+      part_lent data_at (data_at + f) 0 f (omega arith) (omega arith) (omega arith) w ∙ rw z in
       let lf : length (take f d) ≡ f = length-take-le f d (omega (arith, L.upto)) in
       let zs : List ℕ = write_all (map (clip f) ws) (take f d) in
       let lz : length zs ≡ f = length-write_all (map (clip f) ws) (take f d) ∙ rw lf (size_clipped f ws) in
       part_back data_at (data_at + f) 0 f (omega arith) (omega arith) (omega arith) w zs (y ∙ rw (l, lf)) (lz ∙ sym z)
 
   -- ---- what a cut frees
-  pub freed-laid : (f s a e : ℕ) → a ≡ data_at + f → e ≡ data_at + s → f ≤ s → e ≤ o
+  pub freed_laid : (f s a e : ℕ) → a ≡ data_at + f → e ≡ data_at + s → f ≤ s → e ≤ o
       → ys ≡ replicate (length (mid_of a (e - a) c)) 0 → Laid n o k (put_mid a (e - a) c ys) h (freed f s d) t
   unfolding freed
-  freed-laid f s a e ea ee le w y =
+  freed_laid f s a e ea ee le w y =
       let l : length (mid_of a (e - a) c) ≡ s - f =
-      ap length (part-lent a e f s ea ee le w) ∙ simp (length-take, length-drop) (omega (arith, L.upto)) in
+      ap length (part_lent a e f s ea ee le w) ∙ simp (length-take, length-drop) (omega (arith, L.upto)) in
       part_back a e f s ea ee le w (replicate (s - f) 0) (y ∙ rw l) (length-replicate (s - f) 0)

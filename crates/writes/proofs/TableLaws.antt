@@ -20,7 +20,7 @@ use Rattle.requests.specs.Cursors.{entry_at}
 use Rattle.requests.specs.Offsets.{resolved_of}
 use Rattle.requests.specs.Forms.{PartedIn}
 use Rattle.requests.proofs.CursorLaws.{entry_most, count_below}
-use Rattle.requests.proofs.FormLaws.{sum-next, times-next}
+use Rattle.requests.proofs.FormLaws.{sum_next, times_next}
 use Rattle.writes.specs.Sizes.{gap_end, last_gap, walked_by}
 use Rattle.requests.specs.declared.cursors.Entry.{Entry}
 use Rattle.requests.specs.declared.offsets.Resolved.{Resolved}
@@ -75,7 +75,7 @@ pub rest_start : (q : List ℕ) (t : Parted) → PartedIn q t
 rest_start q t k = record { rows = rw k.writes_stride at k.writes.inside; bodies = k.bodies }
 
 pub rest_fits : {q : List ℕ} {v p b : ℕ} → Rest q v p b → 0 < v → p + entry_size ≤ length q
-rest_fits {q} {v} {p} R h = omega (arith, R.rows, times-next entry_size v p h)
+rest_fits {q} {v} {p} R h = omega (arith, R.rows, times_next entry_size v p h)
 
 -- The most that a size can be on the way from s, where the new bytes up to b have been written: no offset names a
 -- position beyond 2,147,483,647 and the size.
@@ -90,9 +90,9 @@ pub record Taken (q : List ℕ) (v p b size : ℕ) (e : Entry) (r : Resolved) : 
   pub place : r ≡ resolved_of (entry_offset p q) size
 
 module _ {q : List ℕ} {v p b size : ℕ} {e : Entry} {r : Resolved} (K : Taken q v p b size e r) where
-  bodies-are : sum_from (λ i. entry_count i q) entry_size v p
+  bodies_are : sum_from (λ i. entry_count i q) entry_size v p
       ≡ entry_count p q + sum_from (λ i. entry_count i q) entry_size (v - 1) (p + entry_size)
-  bodies-are = sum-next entry_size v p K.some (λ i. entry_count i q)
+  bodies_are = sum_next entry_size v p K.some (λ i. entry_count i q)
 
   writes_are : writes_from v p b q
       ≡ record { offset = entry_offset p q; bytes = take (entry_count p q) (drop b q) }
@@ -100,35 +100,35 @@ module _ {q : List ℕ} {v p b size : ℕ} {e : Entry} {r : Resolved} (K : Taken
   unfolding writes_from
   writes_are = let one : v ≡ suc (v - 1) = omega (arith, K.some) in ap (λ (n : ℕ). writes_from n p b q) one
 
-  pub body-length : length (take (entry_count p q) (drop b q)) ≡ entry_count p q
-  body-length =
-      length-take-le (entry_count p q) (drop b q) (rw length-drop (omega (arith, bodies-are, K.rest.bodies)))
+  pub body_length : length (take (entry_count p q) (drop b q)) ≡ entry_count p q
+  body_length =
+      length-take-le (entry_count p q) (drop b q) (rw length-drop (omega (arith, bodies_are, K.rest.bodies)))
 
-  pub entry-fits : b + e.count ≤ length q
-  entry-fits = rw K.entry (omega (arith, bodies-are, K.rest.bodies))
+  pub entry_fits : b + e.count ≤ length q
+  entry_fits = rw K.entry (omega (arith, bodies_are, K.rest.bodies))
 
-  pub entry-rest : Rest q (v - 1) e.next.at (b + e.count)
-  entry-rest =
+  pub entry_rest : Rest q (v - 1) e.next.at (b + e.count)
+  entry_rest =
       rw K.entry
       (record {
-        rows = omega (arith, K.rest.rows, times-next entry_size v p K.some);
-        bodies = omega (arith, bodies-are, K.rest.bodies);
+        rows = omega (arith, K.rest.rows, times_next entry_size v p K.some);
+        bodies = omega (arith, bodies_are, K.rest.bodies);
       })
 
-  place-most : (s : ℕ) → size ≤ most_on_the_way s b → r.position ≤ most_on_the_way s b
-  place-most s h = rw K.place (entry_most p q size (most_on_the_way s b) h (omega arith))
+  place_most : (s : ℕ) → size ≤ most_on_the_way s b → r.position ≤ most_on_the_way s b
+  place_most s h = rw K.place (entry_most p q size (most_on_the_way s b) h (omega arith))
 
-  pub entry-bounds : Octets q → length q ≤ request_limit → (s : ℕ) → s ≤ limit → size ≤ most_on_the_way s b
+  pub entry_bounds : Octets q → length q ≤ request_limit → (s : ℕ) → s ≤ limit → size ≤ most_on_the_way s b
       → (r.position < 4294967296) × (e.count < 4294967296)
-  entry-bounds o l s h k = (
-    omega (arith, place-most s k, K.rest.bodies),
+  entry_bounds o l s h k = (
+    omega (arith, place_most s k, K.rest.bodies),
     rw K.entry (count_below p q o),
   )
 
-  pub entry-small : (s : ℕ) → size ≤ most_on_the_way s b
+  pub entry_small : (s : ℕ) → size ≤ most_on_the_way s b
       → grow size r.position e.count ≤ most_on_the_way s (b + e.count)
-  entry-small s k =
-      omega (arith, grow_most size r.position e.count (most_on_the_way s b) k (place-most s k))
+  entry_small s k =
+      omega (arith, grow_most size r.position e.count (most_on_the_way s b) k (place_most s k))
 
   -- What is left behind the entry, and the size that its offsets are resolved on.
   abbrev pub left : List Write
@@ -137,34 +137,34 @@ module _ {q : List ℕ} {v p b size : ℕ} {e : Entry} {r : Resolved} (K : Taken
   abbrev pub onward : ℕ
   onward = grow size r.position e.count
 
-  entry-resolves : writes_resolve (writes_from v p b q) size ≡ (r.resolves && writes_resolve left onward)
+  entry_resolves : writes_resolve (writes_from v p b q) size ≡ (r.resolves && writes_resolve left onward)
   unfolding writes_resolve
-  entry-resolves = rw (K.place, K.entry, writes_are, body-length)
+  entry_resolves = rw (K.place, K.entry, writes_are, body_length)
 
-  pub entry-placed : placed (writes_from v p b q) size
+  pub entry_placed : placed (writes_from v p b q) size
       ≡ record { at = r.position; bytes = take e.count (drop b q) } ∷ placed left onward
   unfolding placed
-  entry-placed = rw (K.place, K.entry, writes_are, body-length)
+  entry_placed = rw (K.place, K.entry, writes_are, body_length)
 
-  count-length : length (take e.count (drop b q)) ≡ e.count
-  count-length = rw K.entry body-length
+  count_length : length (take e.count (drop b q)) ≡ e.count
+  count_length = rw K.entry body_length
 
-  entry-size : size_all (placed (writes_from v p b q) size) size ≡ size_all (placed left onward) onward
+  entry_size_lem : size_all (placed (writes_from v p b q) size) size ≡ size_all (placed left onward) onward
   unfolding size_all
-  entry-size = rw entry-placed (ap (λ (m : ℕ). size_all (placed left onward) (grow size r.position m)) count-length)
+  entry_size_lem = rw entry_placed (ap (λ (m : ℕ). size_all (placed left onward) (grow size r.position m)) count_length)
 
-  entry-gap : (x : ℕ) → last_gap (placed (writes_from v p b q) size) size x
+  entry_gap : (x : ℕ) → last_gap (placed (writes_from v p b q) size) size x
       ≡ last_gap (placed left onward) onward (gap_end x size r.position e.count)
   unfolding last_gap
-  entry-gap x =
+  entry_gap x =
       let at : ℕ = r.position in
-      rw entry-placed (ap (λ (m : ℕ). last_gap (placed left onward) (grow size at m) (gap_end x size at m)) count-length)
+      rw entry_placed (ap (λ (m : ℕ). last_gap (placed left onward) (grow size at m) (gap_end x size at m)) count_length)
 
-  entry-written : (F : ℕ) (d x : List ℕ) → F ≡ length d
+  entry_written : (F : ℕ) (d x : List ℕ) → F ≡ length d
       → x ≡ write_at d r.position (take (length d - r.position) (take e.count (drop b q)))
       → write_all (map (clip F) (placed left onward)) x ≡ write_all (map (clip F) (placed (writes_from v p b q) size)) d
   unfolding write_all clip
-  entry-written F d x l g = rw (entry-placed, g, l)
+  entry_written F d x l g = rw (entry_placed, g, l)
 
 -- Nothing left.
 none_left : (v p b : ℕ) (q : List ℕ) → v ≤ 0 → writes_from v p b q ≡ []
@@ -189,14 +189,14 @@ pub record Walking (q : List ℕ) (ws : List Write) (size v at : ℕ) (resolves 
 
 module _ {q : List ℕ} {ws : List Write} {size v at : ℕ} {s : Bool} {after end : ℕ}
     (R : Walking q ws size v at s after end) where
-  pub walking-next : {e : Entry} {r : Resolved} → Taken q v at R.body after e r → (x : Bool) (next behind : ℕ)
+  pub walking_next : {e : Entry} {r : Resolved} → Taken q v at R.body after e r → (x : Bool) (next behind : ℕ)
       → x ≡ (s && r.resolves) → next ≡ grow after r.position e.count
       → behind ≡ gap_end end after r.position e.count → Walking q ws size (v - 1) e.next.at x next behind
-  walking-next K x next behind g h k = record {
+  walking_next K x next behind g h k = record {
     body = _;
-    rest = entry-rest K;
-    walked = rw (g, h, k, and_assoc, ← entry-resolves K, ← entry-size K, ← entry-gap K end) R.walked;
-    small = rw h (entry-small K size R.small);
+    rest = entry_rest K;
+    walked = rw (g, h, k, and_assoc, ← entry_resolves K, ← entry_size_lem K, ← entry_gap K end) R.walked;
+    small = rw h (entry_small K size R.small);
   }
 
   pub walking-end : v ≤ 0
@@ -215,20 +215,20 @@ pub record Overlaying (q : List ℕ) (ws : List Write) (size : ℕ) (a d : List 
 
 module _ {q : List ℕ} {ws : List Write} {size : ℕ} {a d : List ℕ} {v at body after : ℕ}
     (O : Overlaying q ws size a d v at body after) where
-  pub overlaying-next : {e : Entry} {r : Resolved} → Taken q v at body after e r → (x : List ℕ) (behind next : ℕ)
+  pub overlaying_next : {e : Entry} {r : Resolved} → Taken q v at body after e r → (x : List ℕ) (behind next : ℕ)
       → length x ≡ length d
       → x ≡ write_at d r.position (take (length d - r.position) (take (body + e.count - body) (drop body q)))
       → behind ≡ body + e.count → next ≡ grow after r.position e.count
       → Overlaying q ws size a x (v - 1) e.next.at behind next
-  overlaying-next {e} {r} K x behind next l g k h =
+  overlaying_next {e} {r} K x behind next l g k h =
       let m : body + e.count - body ≡ e.count = omega arith in
       rw (k, h) (record {
-        rest = entry-rest K;
+        rest = entry_rest K;
         same = l ∙ O.same;
-        small = entry-small K size O.small;
-        written = entry-written K (length a) d x (sym O.same) (rw m at g) ∙ O.written;
+        small = entry_small K size O.small;
+        written = entry_written K (length a) d x (sym O.same) (rw m at g) ∙ O.written;
       })
 
-  pub overlaying-end : v ≤ 0 → d ≡ write_all (map (clip (length a)) (placed ws size)) a
+  pub overlaying_end : v ≤ 0 → d ≡ write_all (map (clip (length a)) (placed ws size)) a
   unfolding placed write_all
-  overlaying-end h = rw (none_left v at body q h) at O.written
+  overlaying_end h = rw (none_left v at body q h) at O.written

@@ -19,8 +19,8 @@ use Rattle.format.specs.Claims.{Valid}
 use Rattle.format.specs.Judging.{Known}
 use Rattle.format.proofs.WellFormed.{used_is, moved_most, moved-not}
 use Rattle.format.proofs.RoundTrip.{parts_count, parts_valid}
-use Rattle.format.proofs.KnownLaws.{frame-count, data-framed, extras-framed, known-room, slack-zeros}
-use Rattle.format.proofs.ViewLaws.{loose, formed-laid, laid_encoded}
+use Rattle.format.proofs.KnownLaws.{frame_count, data_framed, extras_framed, known_room, slack_zeros}
+use Rattle.format.proofs.ViewLaws.{loose, formed_laid, laid_encoded}
 use Rattle.format.proofs.ByteLaws.{at_loose}
 use Rattle.rules.specs.Requests.{Write}
 use Rattle.rules.specs.Writing.{write_all, placed, rewritten}
@@ -127,30 +127,30 @@ loose_behind d m f h g =
 
 -- Loose data with the bytes from f up to its size s freed: its length, its first bytes, and zeros behind them.
 module _ (d : List ℕ) (m f s : ℕ) (l : length d ≡ s) (h : f ≤ s) where
-  left-long : length (take f (loose d m)) ≡ f
-  left-long = length-take-le f (loose d m) (rw (length-append, length-replicate {A = ℕ}) (omega arith))
+  left_long : length (take f (loose d m)) ≡ f
+  left_long = length-take-le f (loose d m) (rw (length-append, length-replicate {A = ℕ}) (omega arith))
 
-  slack-left : drop s (loose d m) ≡ replicate m 0
-  slack-left = drop_at d (replicate m 0) s l
+  slack_left : drop s (loose d m) ≡ replicate m 0
+  slack_left = drop_at d (replicate m 0) s l
 
-  freed-long : length (freed f s (loose d m)) ≡ length (loose d m)
+  freed_long : length (freed f s (loose d m)) ≡ length (loose d m)
   unfolding freed
-  freed-long =
-      rw (slack-left, length-append (take f (loose d m)), left-long, length-append (replicate {A = ℕ} (s - f) 0))
+  freed_long =
+      rw (slack_left, length-append (take f (loose d m)), left_long, length-append (replicate {A = ℕ} (s - f) 0))
       (rw (length-append d, length-replicate {A = ℕ} m 0, length-replicate {A = ℕ} (s - f) 0) (omega arith))
 
-  freed-behind : drop f (freed f s (loose d m)) ≡ replicate (length (loose d m) - f) 0
+  freed_behind : drop f (freed f s (loose d m)) ≡ replicate (length (loose d m) - f) 0
   unfolding freed
-  freed-behind =
+  freed_behind =
       let n : s - f + m ≡ length (loose d m) - f =
       rw (length-append d, length-replicate {A = ℕ} m 0) (omega arith) in
-      drop_at (take f (loose d m)) _ f left-long ∙ ap (λ (x : List ℕ). replicate (s - f) 0 ++ x) slack-left
+      drop_at (take f (loose d m)) _ f left_long ∙ ap (λ (x : List ℕ). replicate (s - f) 0 ++ x) slack_left
       ∙ sym (zeros_split (s - f) m) ∙ rw n
 
-  freed-first : (i : ℕ) → i < f → get_or (freed f s (loose d m)) i 0 ≡ get_or d i 0
+  freed_first : (i : ℕ) → i < f → get_or (freed f s (loose d m)) i 0 ≡ get_or d i 0
   unfolding freed
-  freed-first i g =
-      get_or-append (take f (loose d m)) _ 0 i (omega (arith, left-long)) ∙ get_or-take f (loose d m) i 0 g
+  freed_first i g =
+      get_or-append (take f (loose d m)) _ 0 i (omega (arith, left_long)) ∙ get_or-take f (loose d m) i 0 g
       ∙ at_loose d m i
 
 module _ (c e : List ℕ) (frame : Frame) (f : ℕ) (k : Known c frame) (o : Octets c) where
@@ -160,8 +160,8 @@ module _ (c e : List ℕ) (frame : Frame) (f : ℕ) (k : Known c frame) (o : Oct
   abbrev pub kept-size : ℕ
   kept-size = tail_size frame.extras
 
-  known-count : count_in p ≡ frame.offset
-  known-count = parts_count c k.formed ∙ sym (frame-count k)
+  known_count : count_in p ≡ frame.offset
+  known_count = parts_count c k.formed ∙ sym (frame_count k)
 
   -- where the count goes
   abbrev goal : ℕ
@@ -169,14 +169,14 @@ module _ (c e : List ℕ) (frame : Frame) (f : ℕ) (k : Known c frame) (o : Oct
 
   used-kept : (a : ℕ) → used_length a (extras p.leases) ≡ a + kept-size
   unfolding parts_of
-  used-kept a = rw (extras-framed k) (omega (arith, used_is a frame.extras))
+  used-kept a = rw (extras_framed k) (omega (arith, used_is a frame.extras))
 
-  laid-written : (d : List ℕ) → length d ≡ f
+  laid_written : (d : List ℕ) → length d ≡ f
       → Laid (length c) goal kept-size e (with_fields f goal (head_of p)) (loose d (goal - (data_at + f))) (tail_of p)
       → e ≡ encode (with_bytes p d)
   unfolding with_bytes parts_of tail_of
-  laid-written d l L =
-      let j : moved_count (count_in p) (length d) ≡ goal = rw (known-count, l) in
+  laid_written d l L =
+      let j : moved_count (count_in p) (length d) ≡ goal = rw (known_count, l) in
       let g : count_in (with_bytes p d) ≡ goal = count_with p d ∙ j in
       let h : head_of (with_bytes p d) ≡ with_fields f goal (head_of p) =
       sym (head_written p d (parts_valid c k.formed)) ∙ rw (j, l) in
@@ -188,7 +188,7 @@ module _ (c e : List ℕ) (frame : Frame) (f : ℕ) (k : Known c frame) (o : Oct
 
   -- Data and slack with the old bytes up to the last gap's end and zeros behind the final size, and the writes over
   -- them, in the view with the fields of the final size, are the encoding of the parts with the data rewritten.
-  pub rewritten-whole : (ws : List Write) (cut : Option ℕ) (g : List ℕ) → data_at + length g ≡ goal
+  pub rewritten_whole : (ws : List Write) (cut : Option ℕ) (g : List ℕ) → data_at + length g ≡ goal
       → ((i : ℕ) → i < last_gap (placed ws frame.size) frame.size frame.size → i < f
       → get_or g i 0 ≡ get_or (data_of c) i 0)
       → drop f g ≡ replicate (length g - f) 0
@@ -196,18 +196,18 @@ module _ (c e : List ℕ) (frame : Frame) (f : ℕ) (k : Known c frame) (o : Oct
       (tail_of p)
       → f ≡ final_size ws cut frame.size → e ≡ encode (with_bytes (parts_of c) (rewritten ws cut (data_of c)))
   unfolding overlaid
-  rewritten-whole ws cut g l first zeros L q =
+  rewritten_whole ws cut g l first zeros L q =
       let m = moved_most frame.offset f in
       let lf : length (take f g) ≡ f = length-take-le f g (omega (arith, m.1)) in
       let n : length g - f ≡ goal - (data_at + f) = omega arith in
       let y : write_all (map (clip f) (placed ws frame.size)) (take f g) ≡ rewritten ws cut (data_of c) =
       filled (placed ws frame.size) frame.size f (take f g) (data_of c) lf
       (rw q (final_most ws cut frame.size)) (λ i j h. get_or-take f g i 0 h ∙ first i j h)
-      ∙ rewritten_is ws cut (data_of c) frame.size f (data-framed k) q in
+      ∙ rewritten_is ws cut (data_of c) frame.size f (data_framed k) q in
       let ly : length (rewritten ws cut (data_of c)) ≡ f =
       sym (ap length y) ∙ length-write_all (map (clip f) (placed ws frame.size)) (take f g)
       ∙ rw lf (size_clipped f (placed ws frame.size)) in
-      laid-written (rewritten ws cut (data_of c)) ly (rw (y, zeros, n) at L)
+      laid_written (rewritten ws cut (data_of c)) ly (rw (y, zeros, n) at L)
 
   -- ---- the ways there
   old : List ℕ
@@ -215,63 +215,63 @@ module _ (c e : List ℕ) (frame : Frame) (f : ℕ) (k : Known c frame) (o : Oct
 
   upto : data_at + length old ≡ frame.offset
   unfolding old
-  upto = (formed-laid c frame k o).upto
+  upto = (formed_laid c frame k o).upto
 
   stays : f ≤ frame.size ⊎ data_at + f ≤ frame.offset → goal ≡ frame.offset
-  stays (inl h) = moved-not frame.offset f (omega (arith, (known-room k).0))
+  stays (inl h) = moved-not frame.offset f (omega (arith, (known_room k).0))
   stays (inr h) = moved-not frame.offset f h
 
   -- with the count where it was, the size alone makes the head
-  sized-head : with_size f (head_of p) ≡ with_fields f frame.offset (head_of p)
-  sized-head = size_are p f (parts_valid c k.formed) ∙ rw known-count
+  sized_head : with_size f (head_of p) ≡ with_fields f frame.offset (head_of p)
+  sized_head = size_are p f (parts_valid c k.formed) ∙ rw known_count
 
-  old-long : length (data_of c) + slack_of c ≡ length old
+  old_long : length (data_of c) + slack_of c ≡ length old
   unfolding old
-  old-long = sym (length-append (data_of c) (replicate (slack_of c) 0) ∙ rw (length-replicate {A = ℕ} (slack_of c) 0))
+  old_long = sym (length-append (data_of c) (replicate (slack_of c) 0) ∙ rw (length-replicate {A = ℕ} (slack_of c) 0))
 
   -- growth inside the slack, and data that keeps its size
-  pub filled-whole : (ws : List Write) (cut : Option ℕ) → frame.size ≤ f → data_at + f ≤ frame.offset
+  pub filled_whole : (ws : List Write) (cut : Option ℕ) → frame.size ≤ f → data_at + f ≤ frame.offset
       → Laid (length c) frame.offset kept-size e (with_size f (head_of p))
       (overlaid (placed ws frame.size) f (loose (data_of c) (slack_of c))) (tail_of p)
       → f ≡ final_size ws cut frame.size → e ≡ encode (with_bytes (parts_of c) (rewritten ws cut (data_of c)))
   unfolding old
-  filled-whole ws cut l h L q =
+  filled_whole ws cut l h L q =
       let g : goal ≡ frame.offset = stays (inr h) in
-      let d = data-framed k in
-      rewritten-whole ws cut old (upto ∙ sym g) (λ i j m. at_loose (data_of c) (slack_of c) i)
-      (loose_behind (data_of c) (slack_of c) f (omega arith) (omega (arith, old-long, upto)) ∙ rw old-long)
-      (rw (g, ← sized-head) L) q
+      let d = data_framed k in
+      rewritten_whole ws cut old (upto ∙ sym g) (λ i j m. at_loose (data_of c) (slack_of c) i)
+      (loose_behind (data_of c) (slack_of c) f (omega arith) (omega (arith, old_long, upto)) ∙ rw old_long)
+      (rw (g, ← sized_head) L) q
 
   -- a cut
-  pub freed-whole : (ws : List Write) (cut : Option ℕ) → f ≤ frame.size
+  pub freed_whole : (ws : List Write) (cut : Option ℕ) → f ≤ frame.size
       → Laid (length c) frame.offset kept-size e (with_size f (head_of p))
       (overlaid (placed ws frame.size) f (freed f frame.size (loose (data_of c) (slack_of c)))) (tail_of p)
       → f ≡ final_size ws cut frame.size → e ≡ encode (with_bytes (parts_of c) (rewritten ws cut (data_of c)))
   unfolding old
-  freed-whole ws cut l L q =
+  freed_whole ws cut l L q =
       let g : goal ≡ frame.offset = stays (inl l) in
       let d : List ℕ = data_of c in
       let m : ℕ = slack_of c in
-      let n : length (freed f frame.size old) ≡ length old = freed-long d m f frame.size (data-framed k) l in
-      rewritten-whole ws cut (freed f frame.size old) (rw n (upto ∙ sym g))
-      (λ i j h. freed-first d m f frame.size (data-framed k) l i h)
-      (freed-behind d m f frame.size (data-framed k) l ∙ rw n) (rw (g, ← sized-head) L) q
+      let n : length (freed f frame.size old) ≡ length old = freed_long d m f frame.size (data_framed k) l in
+      rewritten_whole ws cut (freed f frame.size old) (rw n (upto ∙ sym g))
+      (λ i j h. freed_first d m f frame.size (data_framed k) l i h)
+      (freed_behind d m f frame.size (data_framed k) l ∙ rw n) (rw (g, ← sized_head) L) q
 
   -- data that keeps its size has the fields already
   pub same_head : frame.size ≡ f → head_of p ≡ with_size f (head_of p)
   unfolding parts_of
   same_head h =
-      let l : length (data_of c) ≡ f = data-framed k ∙ h in
+      let l : length (data_of c) ≡ f = data_framed k ∙ h in
       sym (size_are p f (parts_valid c k.formed) ∙ rw (← l) (head-same p (parts_valid c k.formed)))
 
 -- Both sizes have room.
 pub both_fit : {c q : List ℕ} {frame : Frame} {t : Parted} {f : ℕ} → Known c frame → Final q t frame f (length c)
     → Fits frame f c
 both_fit {c = c} {frame = frame} k r =
-    let m = known-room k in
+    let m = known_room k in
     record {
       behind = m.0;
-      zeros = slack-zeros k;
+      zeros = slack_zeros k;
       before = omega (arith, used_is frame.offset frame.extras, m.1);
       after = r.fits;
       most = m.2;
@@ -283,6 +283,6 @@ pub final_room : {c q : List ℕ} {frame : Frame} {t : Parted} {f : ℕ} → Kno
     → (data_at + f + tail_size frame.extras ≤ length c) × (f ≤ limit)
 final_room {frame = frame} {f = f} k r =
     let u = used_is (moved_count frame.offset f) frame.extras in
-    let m = known-room k in
+    let m = known_room k in
     let w = moved_most frame.offset f in
     (omega (arith, r.fits, w.1), omega (arith, r.fits, w.1, m.2))

@@ -60,9 +60,9 @@ module _ {c q r : List ℕ} {f : Frame} {t : Parted} {v : Verdict} (G : Writing 
   unfolding request_rows verdict_of
   number_is = outcome_formed c q (length r) G.known.formed ∙ rw (G.request.is, G.verdict)
 
-  reply-counted : v.reply ≡ counted (parts_of c) (write_in t q)
+  reply_counted : v.reply ≡ counted (parts_of c) (write_in t q)
   unfolding verdict_of counted
-  reply-counted = ap (λ (x : Verdict). x.reply) G.verdict
+  reply_counted = ap (λ (x : Verdict). x.reply) G.verdict
 
   -- What has to be shown of an answer, a container and a reply space afterwards.
   abbrev Results : Answer → List ℕ → List ℕ → Type 0
@@ -88,7 +88,7 @@ module _ {c q r : List ℕ} {f : Frame} {t : Parted} {v : Verdict} (G : Writing 
       (cond (eqb k 0) (encode (after (parts_of c) (write_in t q))) c) (put 0 (reply_to (parts_of c) (write_in t q)) r)
   unfolding answered container_after reply_after answer_to after_of reply_bytes maybe parts_of
   replied k e z = (
-    rw (number_is, e, G.request.is, z, reply-counted),
+    rw (number_is, e, G.request.is, z, reply_counted),
     (rw (number_is, e, G.request.is), rw (number_is, e, z, G.request.is)),
   )
 
@@ -103,9 +103,9 @@ module _ {c q r : List ℕ} {f : Frame} {t : Parted} {v : Verdict} (G : Writing 
 
   -- d is the data as the code takes it.
   module _ {d : List ℕ} (D : d ≡ data_of c) where
-    reply-read : reply_of (pieces_in t.tests q d) ≡ reply_to (parts_of c) (write_in t q)
+    reply_read : reply_of (pieces_in t.tests q d) ≡ reply_to (parts_of c) (write_in t q)
     unfolding reply_to parts_of
-    reply-read =
+    reply_read =
         rw (D, G.request.parted.tests_stride)
         (ap reply_of (sym (test_pieces t.tests.count t.tests.first.at t.specimens.at q (data_of c))))
 
@@ -116,16 +116,16 @@ module _ {c q r : List ℕ} {f : Frame} {t : Parted} {v : Verdict} (G : Writing 
     pub reply_fits : replies v.number ≡ true → length (reply_of (pieces_in t.tests q d)) ≤ length r
     unfolding rows admit_rows find_rows
     reply_fits e =
-        rw reply-read (short_no _ _ (length r) (length (reply_to (parts_of c) (write_in t q))) _ (rw number-rows at e))
+        rw reply_read (short_no _ _ (length r) (length (reply_to (parts_of c) (write_in t q))) _ (rw number-rows at e))
 
     -- A false test: the reply alone is written.
     pub failed : v.number ≡ 8 → {x : Answer} {s : List ℕ} → x ≡ answer_of 8 no_node v.reply
         → s ≡ put 0 (reply_of (pieces_in t.tests q d)) r → Results x c s
     unfolding replies
-    failed e i j = rw (i, j, reply-read) (replied 8 e refl)
+    failed e i j = rw (i, j, reply_read) (replied 8 e refl)
 
     -- Done: e is what the rewriting made of the container.
     pub done : v.number ≡ 0 → {x : Answer} {e s : List ℕ} → x ≡ answer_of 0 no_node v.reply
         → e ≡ encode (after (parts_of c) (write_in t q)) → s ≡ put 0 (reply_of (pieces_in t.tests q d)) r → Results x e s
     unfolding replies
-    done z i h j = rw (i, h, j, reply-read) (replied 0 z refl)
+    done z i h j = rw (i, h, j, reply_read) (replied 0 z refl)

@@ -68,7 +68,7 @@ use Rattle.upkeep.specs.declared.auditing.Leased.{Leased}
 use Rattle.upkeep.specs.contracts.auditing.Leased as S
 use Rattle.upkeep.proofs.auditing.Leased.TheLaws as S'
 use Rattle.upkeep.proofs.AuditLaws.{rows_from, filled, Due, due, Filling, unfilled}
-use Rattle.upkeep.proofs.AuditLaws.{filled-length, filling-asks, filling-more, filled_more}
+use Rattle.upkeep.proofs.AuditLaws.{filled-length, filling_asks, filling-more, filled_more}
 use Rattle.upkeep.proofs.Steps.{says_both, tests}
 use Rattle.upkeep.specs.contracts.auditing.audit_answer as ask
 use Rattle.upkeep.proofs.auditing.audit_answer.Symbol as ask-def
@@ -184,7 +184,7 @@ module _ {M : Type 1} {𝓤 : Ura M} (𝓛 : Logic 𝓤) (mem : Memory → SProp
   goes-next : (t : Far) → t.done < n
       → ent 𝓤 (sep 𝓤 (A.lft κ q) (sem 𝓛 Own)) ((Next 𝓛 mem run).pre (to-next t.at))
   goes-next t less =
-      qed 𝓛 (‵ (flft κ q) ∷ ‵ Own ∷ []) ∵ says ! (filling-asks d.now ys n is-due t less) $ nothing ! $
+      qed 𝓛 (‵ (flft κ q) ∷ ‵ Own ∷ []) ∵ says ! (filling_asks d.now ys n is-due t less) $ nothing ! $
       move ! (1 ∷ 0 ∷ []) $ join ! $ frame ! $ nothing ! $
       owned ! usize (Is usize) (uint_Makes 𝓛 w64) t.at _ (refl, t.fits) $ fjoin ! $ move ! (1 ∷ 0 ∷ []) $
       fjoin ! $ done !
@@ -283,10 +283,10 @@ module _ {M : Type 1} {𝓤 : Ura M} (𝓛 : Logic 𝓤) (mem : Memory → SProp
           split ! $ move ! (1 ∷ []) $ use1 𝓛 (raw (fact 𝓤 (Follows t.at r))) (next-said t.at r) $
           heard ! (Follows t.at r) (λ e. split ! $ split ! $ move ! (2 ∷ []) $
           -- [the lease; the token; true; what c owns; the table; the open borrow; obs; auth; _11; …; _10; …]
-          peeks ! S.the_row (Is S.the_row) (shows 𝓛 S.the_row) r (u ∷ []) (λ is-lease.
-          land ! (from ! (stop !)) (init ! 16 refl ((LL.lawful S.the_type S'.the_laws 𝓛).typed r _ is-lease).0) $
+          peeks ! S.the_row (Is S.the_row) (shows 𝓛 S.the_row) r (u ∷ []) (λ is_lease_lem.
+          land ! (from ! (stop !)) (init ! 16 refl ((LL.lawful S.the_type S'.the_laws 𝓛).typed r _ is_lease_lem).0) $
           rewrite ! 16 (λ (w : Val). ‵ (fat full_share S'.mir l₇ 0 w))
-          (ap only (LL.tells S.the_type S'.the_laws r _ is-lease)) refl $
+          (ap only (LL.tells S.the_type S'.the_laws r _ is_lease_lem)) refl $
           assigns ! (bin ! (load ! (from ! (stop !)) (look ! 20 refl)) (lit ! tt) (record { fits = scaled less }))
           (from ! (stop !)) (init ! 10 refl (tt, record { fits = scaled less })) $
           assigns ! (bin ! (load ! (from ! (fld ! refl (stop !))) (look_in ! 26 (sub ! 0 refl (whole !))))
@@ -297,21 +297,21 @@ module _ {M : Type 1} {𝓤 : Ura M} (𝓛 : Logic 𝓤) (mem : Memory → SProp
           (LL.vals T.the_type T'.the_laws) (LL.tells T.the_type T'.the_laws) full_share (zs t.done) t.done r.row
           b o (within less) (λ _.
           assigns ! (of_opd ! (load ! (from ! (fld ! refl (stop !))) (look_in ! 18 (sub ! 0 refl (whole !)))))
-          (from ! (hop ! (look ! 10 refl) (stop !))) (store_raw ! 0 refl (typed r.row (is_row r u is-lease))) $
-          owned ! T.the_row (Is T.the_row) (LL.makes T.the_type T'.the_plain 𝓛) r.row _ (is_row r u is-lease) $
+          (from ! (hop ! (look ! 10 refl) (stop !))) (store_raw ! 0 refl (typed r.row (is_row r u is_lease_lem))) $
+          owned ! T.the_row (Is T.the_row) (LL.makes T.the_type T'.the_plain 𝓛) r.row _ (is_row r u is_lease_lem) $
           move ! (1 ∷ 0 ∷ 3 ∷ []) $
           elem_put ! T.the_row full_share (zs t.done) t.done r.row (row-val r.row ∷ []) b o (within less) $
           rewrite ! 0 (λ (l : List LeaseRow). ‵ (row T.the_row full_share l b o)) (stored less r e) refl $
           -- [the table; what was there; the lease; the token; true; what c owns; the open borrow; obs; auth; _11; …]
           assigns ! (of_opd ! (load ! (from ! (fld ! refl (stop !))) (look_in ! 17 (sub ! 1 refl (whole !)))))
-          (from ! (stop !)) (store ! 19 refl (tt, record { fits = next_fits r u is-lease })) $
+          (from ! (stop !)) (store ! 19 refl (tt, record { fits = next_fits r u is_lease_lem })) $
           assigns_last ! (bin ! (load ! (from ! (stop !)) (look ! 21 refl)) (lit ! tt)
-          (record { fits = fits (more less r u is-lease e) })) (from ! (stop !))
-          (store ! 21 refl (tt, record { fits = fits (more less r u is-lease e) })) $
+          (record { fits = fits (more less r u is_lease_lem e) })) (from ! (stop !))
+          (store ! 21 refl (tt, record { fits = fits (more less r u is_lease_lem e) })) $
           forget ! 9 refl $ forget ! 11 refl $ forget ! 13 refl $ forget ! 17 refl $
           keep ! (3 ∷ 5 ∷ 0 ∷ 6 ∷ 7 ∷ 8 ∷ 9 ∷ 10 ∷ 11 ∷ 12 ∷ 13 ∷ 14 ∷ 15 ∷ 16 ∷ 17 ∷ 18 ∷ 19 ∷ 20 ∷ 21 ∷ 22
           ∷ 23 ∷ 24 ∷ 25 ∷ 26 ∷ 27 ∷ 28 ∷ 29 ∷ 30 ∷ 31 ∷ 32 ∷ []) $
-          again ! Nearer At t (more less r u is-lease e)
+          again ! Nearer At t (more less r u is_lease_lem e)
           (add-one-dec n t.done (ltb→lt t.done n less))))))))
           -- the loop is left: the answer is returned, and the borrow is closed at the table as it now is
           (λ over. exec ! C Λ En body.t-7 (at_ret En Post) $
@@ -335,10 +335,10 @@ module _ {M : Type 1} {𝓤 : Ura M} (𝓛 : Logic 𝓤) (mem : Memory → SProp
           typed r is_row = ((LL.lawful T.the_type T'.the_laws 𝓛).typed r _ is_row).0
 
           is_row : (r : Leased) (u : Val) → Is S.the_row r (u ∷ []) → Is T.the_row r.row (row-val r.row ∷ [])
-          is_row r u is-lease = (LL.owed S.the_type S'.the_laws r _ is-lease).0
+          is_row r u is_lease_lem = (LL.owed S.the_type S'.the_laws r _ is_lease_lem).0
 
           next_fits : (r : Leased) (u : Val) → Is S.the_row r (u ∷ []) → r.next < 2 ^ 64
-          next_fits r u is-lease = (LL.owed S.the_type S'.the_laws r _ is-lease).1.0.1
+          next_fits r u is_lease_lem = (LL.owed S.the_type S'.the_laws r _ is_lease_lem).1.0.1
 
           scaled : Holds (ltb t.done n) → t.done * 92 < 2 ^ 64
           scaled less = omega (arith, ltb→lt t.done n less, is-due.inside, room.1)
@@ -347,9 +347,9 @@ module _ {M : Type 1} {𝓤 : Ura M} (𝓛 : Logic 𝓤) (mem : Memory → SProp
           within less = rw (zs-length t) (omega (arith, ltb→lt t.done n less, is-due.inside))
 
           more : Holds (ltb t.done n) → (r : Leased) (u : Val) → Is S.the_row r (u ∷ []) → Follows t.at r → Far
-          more less r u is-lease e =
+          more less r u is_lease_lem e =
               filling-more d.now ys n is-due t (ltb→lt t.done n less) r.row r.next e
-              (next_fits r u is-lease)
+              (next_fits r u is_lease_lem)
 
           stored : Holds (ltb t.done n) → (r : Leased) → Follows t.at r
               → set (zs t.done) t.done r.row ≡ zs (t.done + 1)

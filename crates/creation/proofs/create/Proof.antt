@@ -7,7 +7,7 @@ use borrow.Author.Tests.{eq-eqb, ne_eqb}
 use Rattle.format.specs.Layout.{node_size, secret_size}
 use Rattle.format.specs.Container.{length_allowed}
 use Rattle.format.proofs.JudgingLaws.{length-true, too_short, too_long}
-use Rattle.creation.proofs.FreshLaws.{create-length, create-lengths, create-magic, create-done}
+use Rattle.creation.proofs.FreshLaws.{create_length, create_lengths, create_magic, create_done}
 use borrow.Author.Rules.{rules}
 use Rattle.creation.proofs.create.Statement.{statement}
 use Rattle.creation.proofs.create.Tie as tie
@@ -22,7 +22,7 @@ answer-requires c κs = search rules
 returns : tie.Need-returns
 returns c =
     let a = c.before.before.before.before.before.args in
-    create-length a.c.now a.node.now a.enabler.now _ (too_short _ (omega arith)) c.answer.ensures
+    create_length a.c.now a.node.now a.enabler.now _ (too_short _ (omega arith)) c.answer.ensures
 
 answer-requires-2 : tie.Need-answer-requires-2
 answer-requires-2 c κs = search rules
@@ -30,7 +30,7 @@ answer-requires-2 c κs = search rules
 returns-2 : tie.Need-returns-2
 returns-2 c =
     let a = c.before.before.before.before.before.before.args in
-    create-length a.c.now a.node.now a.enabler.now _ (too_long _ (omega arith) (omega arith))
+    create_length a.c.now a.node.now a.enabler.now _ (too_long _ (omega arith) (omega arith))
     c.answer2.ensures
 
 answer-requires-3 : tie.Need-answer-requires-3
@@ -39,7 +39,7 @@ answer-requires-3 c κs = search rules
 returns-3 : tie.Need-returns-3
 returns-3 c =
     let a = c.before.before.before.before.before.before.before.args in
-    create-lengths a.c.now a.node.now a.enabler.now _ (allowed c.before.before)
+    create_lengths a.c.now a.node.now a.enabler.now _ (allowed c.before.before)
     (rw (ne_eqb (length a.node.now) node_size c.before.if3.true)) c.answer3.ensures
 
 answer-requires-4 : tie.Need-answer-requires-4
@@ -48,7 +48,7 @@ answer-requires-4 c κs = search rules
 returns-4 : tie.Need-returns-4
 returns-4 c =
     let a = c.before.before.before.before.before.before.before.before.args in
-    create-lengths a.c.now a.node.now a.enabler.now _ (allowed c.before.before.before)
+    create_lengths a.c.now a.node.now a.enabler.now _ (allowed c.before.before.before)
     (rw (
       eq-eqb (length a.node.now) node_size c.before.before.if3.false,
       ne_eqb (length a.enabler.now) secret_size
@@ -67,7 +67,7 @@ same_length c = search rules
 returns-5 : tie.Need-returns-5
 returns-5 c =
     let a = c.before.before.before.before.before.before.before.before.before.before.before.args in
-    create-magic a.c.now a.node.now a.enabler.now _
+    create_magic a.c.now a.node.now a.enabler.now _
     (allowed c.before.before.before.before.before.before) (omega arith) (omega arith)
     (sym c.before.before.has-magic.ensures ∙ c.before.if5.true) c.answer5.ensures
 
@@ -83,7 +83,7 @@ same-length-2 c = search rules
 returns-6 : tie.Need-returns-6
 returns-6 c =
     let a = c.before.before.before.before.before.before.before.before.before.before.before.before.before.before.before.args in
-    create-done a.c.now a.node.now a.enabler.now _ _
+    create_done a.c.now a.node.now a.enabler.now _ _
     (allowed c.before.before.before.before.before.before.before.before.before.before) (omega arith)
     (omega arith) (sym c.before.before.before.before.before.before.has-magic.ensures
     ∙ c.before.before.before.before.before.if5.false) c.answer6.ensures

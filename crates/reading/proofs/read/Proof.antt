@@ -1,8 +1,8 @@
 -- Each way out has met the tests of the rows above its own.
 use native.Mathlib.Omega.{arith}
 use borrow.Author.Tests.{not-true, not-false}
-use Rattle.format.proofs.KnownLaws.{lent, known-room, data-lent, lent-small}
-use Rattle.reading.proofs.ReadLaws.{Asked, reply_length, read-unresolved, read-no-space, read_done}
+use Rattle.format.proofs.KnownLaws.{lent, known_room, data_lent_lem, lent_small}
+use Rattle.reading.proofs.ReadLaws.{Asked, reply_length, read_unresolved, read_no_space, read_done}
 use borrow.Author.Rules.{rules}
 use Rattle.reading.proofs.read.Statement.{statement}
 use Rattle.reading.proofs.read.Tie as tie
@@ -13,12 +13,12 @@ asked : (c : tie.After-measure) → let a = c.before.before.before.before.before
 asked c = record {
   known = c.before.before.before.before.before.before.requires.0;
   request = c.before.before.before.before.before.before.requires.1;
-  bytes = data-lent c.before.before.before.before.before.before.requires.0 c.before.before.data-end.ensures;
+  bytes = data_lent_lem c.before.before.before.before.before.before.requires.0 c.before.before.data-end.ensures;
   measured = c.measure.ensures;
 }
 
 data-end-requires : tie.Need-data-end-requires
-data-end-requires c κs = omega (arith, known-room c.before.before.before.requires.0)
+data-end-requires c κs = omega (arith, known_room c.before.before.before.requires.0)
 
 sub-d : tie.Need-overflow-sub-d
 sub-d c = search rules
@@ -27,17 +27,17 @@ part-d-start : tie.Need-slice-bounds-d-start
 part-d-start c = search rules
 
 part-d-end : tie.Need-slice-bounds-d-end
-part-d-end c = omega (arith, c.data-end.ensures, known-room c.before.before.before.before.requires.0)
+part-d-end c = omega (arith, c.data-end.ensures, known_room c.before.before.before.before.requires.0)
 
 measure-requires : tie.Need-measure-requires
 measure-requires c κs = let s = c.before.before.before.before.before in
-    (s.requires.1.table, lent-small s.requires.0 c.before.data-end.ensures)
+    (s.requires.1.table, lent_small s.requires.0 c.before.data-end.ensures)
 
 answer-requires : tie.Need-answer-requires
 answer-requires c κs = search rules
 
 returns : tie.Need-returns
-returns c = read-unresolved (asked c.before.before.before)
+returns c = read_unresolved (asked c.before.before.before)
     c.before.before.before.before.before.before.before.before.before.args.r.now _
     (not-true _ c.before.if1.true) c.answer.ensures
 
@@ -45,7 +45,7 @@ answer-requires-2 : tie.Need-answer-requires-2
 answer-requires-2 c κs = search rules
 
 returns-2 : tie.Need-returns-2
-returns-2 c = read-no-space (asked c.before.before.before.before)
+returns-2 c = read_no_space (asked c.before.before.before.before)
     c.before.before.before.before.before.before.before.before.before.before.args.r.now _
     (not-false _ c.before.before.if1.false) c.before.if2.true c.answer2.ensures
 
@@ -53,7 +53,7 @@ write-reply-requires : tie.Need-write-reply-requires
 write-reply-requires c κs =
     let s = c.before.before.before.before.before.before.before.before.before.before in (
       s.requires.1.table,
-      lent-small s.requires.0 c.before.before.before.before.before.before.data-end.ensures,
+      lent_small s.requires.0 c.before.before.before.before.before.before.data-end.ensures,
       omega (arith, reply_length (asked c.before.before.before.before), c.before.if2.false),
     )
 

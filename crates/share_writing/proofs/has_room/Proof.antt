@@ -4,7 +4,7 @@ use Prim.Native.Nat.{◌+◌, ◌-◌, ◌≤◌}
 use lib.Dec.{leb}
 use lib.ListN.{length, drop}
 use Rattle.octets.specs.Lists.{sum}
-use Rattle.share_writing.proofs.RoomLaws.{room-start, room-none, room-more, room-short, room-end}
+use Rattle.share_writing.proofs.RoomLaws.{room_start, room_none, room_more, room_short, room_end}
 use native.Mathlib.Omega.{arith}
 use Rattle.share_writing.proofs.has_room.Statement.{statement}
 use Rattle.share_writing.proofs.has_room.Tie as tie
@@ -17,10 +17,10 @@ abbrev decreases-loop : tie.decreases-loop
 decreases-loop space header sizes left₀ i₀ left i = length sizes - i
 
 returns : tie.Need-returns invariant-loop decreases-loop
-returns c = sym (room-none _ _ _ c.if1.true)
+returns c = sym (room_none _ _ _ c.if1.true)
 
 loop-holds : tie.Need-loop-init invariant-loop decreases-loop
-loop-holds c = (omega arith, room-start _ _ _ c.if1.false)
+loop-holds c = (omega arith, room_start _ _ _ c.if1.false)
 
 mul-n : tie.Need-overflow-mul-n invariant-loop decreases-loop
 mul-n c = omega arith
@@ -31,7 +31,7 @@ shared-slice-read-n c = omega arith
 returns-2 : tie.Need-returns-2 invariant-loop decreases-loop
 returns-2 c =
     let l = c.before.before.before in
-    sym (l.loop.invariant.1 ∙ room-short _ _ _ c.before.before.loop-test.true c.if2.true)
+    sym (l.loop.invariant.1 ∙ room_short _ _ _ c.before.before.loop-test.true c.if2.true)
 
 add-i : tie.Need-overflow-add-i invariant-loop decreases-loop
 add-i c = omega arith
@@ -42,10 +42,10 @@ loop-less c = omega arith
 loop-again : tie.Need-loop-preserved invariant-loop decreases-loop
 loop-again c =
     let l = c.before.before.before in
-    (omega arith, l.loop.invariant.1 ∙ room-more _ _ _ c.before.before.loop-test.true c.if2.false)
+    (omega arith, l.loop.invariant.1 ∙ room_more _ _ _ c.before.before.loop-test.true c.if2.false)
 
 returns-3 : tie.Need-returns-3 invariant-loop decreases-loop
-returns-3 c = sym (c.before.loop.invariant.1 ∙ room-end _ _ _ c.loop-test.false)
+returns-3 c = sym (c.before.loop.invariant.1 ∙ room_end _ _ _ c.loop-test.false)
 
 pub has-room-spec : {M : Type 1} → statement M
 has-room-spec =

@@ -14,8 +14,8 @@ use Rattle.octets.specs.Numbers.{fits}
 use Rattle.share_numbers.proofs.CodingLaws.{coding_facts}
 use Rattle.share_writing.specs.Facts.{segment_for}
 use Rattle.share_rules.specs.Writing.{sizes_ok, segment_fits}
-use Rattle.share_rules.proofs.WritingLaws.{rows-3, rows-7, rows-23, rows-24, rows-25, rows-rest}
-use Rattle.share_writing.proofs.VerdictLaws.{judges-refused}
+use Rattle.share_rules.proofs.WritingLaws.{rows_3, rows_7, rows_23, rows_24, rows_25, rows_rest}
+use Rattle.share_writing.proofs.VerdictLaws.{judges_refused}
 use borrow.Author.Rules.{rules}
 use Rattle.share_writing.proofs.verdict_of.Statement.{statement}
 use Rattle.share_writing.proofs.verdict_of.Tie as tie
@@ -72,8 +72,8 @@ refused-requires c κs = search rules
 returns : tie.Need-returns
 unfolding sizes_ok
 returns c =
-    judges-refused _ _ _ _ _ _ _ _ _ _ _ _ _ _ 3 c.refused.ensures
-    (rows-3 _ _ _ _ _ _ _ _ _ _ _ _ _ (rw (ne_eqb _ _ c.before.if1.true))) (omega arith)
+    judges_refused _ _ _ _ _ _ _ _ _ _ _ _ _ _ 3 c.refused.ensures
+    (rows_3 _ _ _ _ _ _ _ _ _ _ _ _ _ (rw (ne_eqb _ _ c.before.if1.true))) (omega arith)
 
 iv-size-requires : tie.Need-iv-size-requires
 iv-size-requires c κs = search rules
@@ -87,8 +87,8 @@ returns-2 c =
     let t = c.before in
     let i = t.before in
     let k = ne_eqb _ _ (λ h. t.if2.true (h ∙ sym i.iv_size_holds.ensures)) in
-    judges-refused _ _ _ _ _ _ _ _ _ _ _ _ _ _ 3 c.refused2.ensures
-    (rows-3 _ _ _ _ _ _ _ _ _ _ _ _ _ (rw (eq-eqb _ _ i.before.if1.false, k))) (omega arith)
+    judges_refused _ _ _ _ _ _ _ _ _ _ _ _ _ _ 3 c.refused2.ensures
+    (rows_3 _ _ _ _ _ _ _ _ _ _ _ _ _ (rw (eq-eqb _ _ i.before.if1.false, k))) (omega arith)
 
 size-requires : tie.Need-size-requires
 size-requires c κs = search rules
@@ -109,8 +109,8 @@ returns-3 c =
     let s = h.before.before.before in
     let e = sym h.has_room.ensures ∙ not-true _ t.if3.true in
     let k = leb-false _ _ (rw h.before.before.size.ensures at e) in
-    judges-refused _ _ _ _ _ _ _ _ _ _ _ _ _ _ 7 c.refused3.ensures
-    (rows-7 _ _ _ _ _ _ _ _ _ _ _ _ _ (sized s) k) (omega arith)
+    judges_refused _ _ _ _ _ _ _ _ _ _ _ _ _ _ 7 c.refused3.ensures
+    (rows_7 _ _ _ _ _ _ _ _ _ _ _ _ _ (sized s) k) (omega arith)
 
 coding-ok-requires : tie.Need-coding-ok-requires
 coding-ok-requires c κs = search rules
@@ -124,8 +124,8 @@ returns-4 c =
     let r = t.before.before in
     let s = r.before.before.before.before in
     let e = sym t.before.coding-ok.ensures ∙ not-true _ t.if4.true in
-    judges-refused _ _ _ _ _ _ _ _ _ _ _ _ _ _ 23 c.refused4.ensures
-    (rows-23 _ _ _ _ _ _ _ _ _ _ _ _ _ (sized s) (roomy r) e) (omega arith)
+    judges_refused _ _ _ _ _ _ _ _ _ _ _ _ _ _ 23 c.refused4.ensures
+    (rows_23 _ _ _ _ _ _ _ _ _ _ _ _ _ (sized s) (roomy r) e) (omega arith)
 
 segment-of-requires : tie.Need-segment-of-requires
 segment-of-requires c κs = (coding_facts _ _ (coded c)).0
@@ -141,8 +141,8 @@ returns-5 c =
     let r = k.before.before in
     let s = r.before.before.before.before in
     let e = sym m.segment-of.ensures.0 ∙ not-true _ t.if5.true in
-    judges-refused _ _ _ _ _ _ _ _ _ _ _ _ _ _ 24 c.refused5.ensures
-    (rows-24 _ _ _ _ _ _ _ _ _ _ _ _ _ (sized s) (roomy r) (coded k) e) (omega arith)
+    judges_refused _ _ _ _ _ _ _ _ _ _ _ _ _ _ 24 c.refused5.ensures
+    (rows_24 _ _ _ _ _ _ _ _ _ _ _ _ _ (sized s) (roomy r) (coded k) e) (omega arith)
 
 places-requires : tie.Need-places-requires
 places-requires c κs =
@@ -170,8 +170,8 @@ returns-6 c =
     let r = k.before.before in
     let s = r.before.before.before.before in
     let e = sym t.before.bounds-fit.ensures ∙ not-true _ t.if6.true in
-    judges-refused _ _ _ _ _ _ _ _ _ _ _ _ _ _ 25 c.refused6.ensures
-    (rows-25 _ _ _ _ _ _ _ _ _ _ _ _ _ (sized s) (roomy r) (coded k) (fitted q) (rw (laid p) at e)) (omega arith)
+    judges_refused _ _ _ _ _ _ _ _ _ _ _ _ _ _ 25 c.refused6.ensures
+    (rows_25 _ _ _ _ _ _ _ _ _ _ _ _ _ (sized s) (roomy r) (coded k) (fitted q) (rw (laid p) at e)) (omega arith)
 
 content-outcome-requires : tie.Need-content-outcome-requires
 unfolding segment_fits
@@ -193,7 +193,7 @@ returns-7 c =
     let r = k.before.before in
     let s = r.before.before.before.before in
     let e = sym o.before.bounds-fit.ensures ∙ not-false _ o.if6.false in
-    let w = rows-rest _ _ _ _ _ _ _ _ _ _ _ _ _ (sized s) (roomy r) (coded k) (fitted q) (rw (laid p) at e) in
+    let w = rows_rest _ _ _ _ _ _ _ _ _ _ _ _ _ (sized s) (roomy r) (coded k) (fitted q) (rw (laid p) at e) in
     record {
       number = rw (sized-segment q) at c.content-outcome.ensures ∙ sym w;
       segment = λ z. sized-segment q;

@@ -5,7 +5,7 @@ use mathlib.Core.Bool.{true}
 use native.Mathlib.Omega.{arith}
 use borrow.Author.Tests.{not-true, not-false}
 use Rattle.rules.specs.Outcomes.{replies}
-use Rattle.format.proofs.KnownLaws.{known-room, data-lent, lent-small}
+use Rattle.format.proofs.KnownLaws.{known_room, data_lent_lem, lent_small}
 use Rattle.writing.proofs.WriteRequestLaws.{Writing, decided, differs, other, accepted, reply_fits, failed}
 use Rattle.writing.proofs.WriteRequestLaws.{done}
 use borrow.Author.Rules.{rules}
@@ -27,7 +27,7 @@ accepting c =
 
 enabler-differs-requires : tie.Need-enabler-differs-requires
 enabler-differs-requires c κs =
-    omega (arith, known-room c.before.before.before.before.before.requires.0)
+    omega (arith, known_room c.before.before.before.before.before.requires.0)
 
 same_length : tie.Need-same-length
 same_length c = search rules
@@ -47,7 +47,7 @@ returns-2 c = other (writing c.before.before.before.before) c.before.before.befo
 
 data-end-requires : tie.Need-data-end-requires
 data-end-requires c κs =
-    omega (arith, known-room c.before.before.before.before.before.before.requires.0)
+    omega (arith, known_room c.before.before.before.before.before.before.requires.0)
 
 sub-write-reply : tie.Need-overflow-sub-write-reply
 sub-write-reply c = search rules
@@ -59,7 +59,7 @@ part-write-reply-end : tie.Need-slice-bounds-write-reply-end
 part-write-reply-end c = omega (
   arith,
   c.before.data-end.ensures,
-  known-room c.before.before.before.before.before.before.before.before.requires.0,
+  known_room c.before.before.before.before.before.before.before.before.requires.0,
 )
 
 write-reply-requires : tie.Need-write-reply-requires
@@ -67,8 +67,8 @@ write-reply-requires c κs =
     let s = c.before.before.before.before.before.before.before.before.before.before in
     let e = c.before.before.before.data-end.ensures in (
       s.requires.1.0.parted.tests,
-      lent-small s.requires.0 e,
-      reply_fits (writing c.before.before.before.before.before.before.before) (data-lent s.requires.0 e)
+      lent_small s.requires.0 e,
+      reply_fits (writing c.before.before.before.before.before.before.before) (data_lent_lem s.requires.0 e)
           (replying c.before.before.before.before),
     )
 
@@ -84,7 +84,7 @@ same-length-3 c = search rules
 returns-3 : tie.Need-returns-3
 returns-3 c =
     failed (writing c.before.before.before.before.before.before.before.before.before.before.before.before)
-    (data-lent c.before.before.before.before.before.before.before.before.before.before.before.before.before.before.before.requires.0
+    (data_lent_lem c.before.before.before.before.before.before.before.before.before.before.before.before.before.before.before.requires.0
     c.before.before.before.before.before.before.before.before.data-end.ensures) c.before.if3.true
     c.answer2.ensures c.before.before.before.before.write-reply.ensures
 
@@ -108,7 +108,7 @@ returns-4 : tie.Need-returns-4
 returns-4 c =
     done (writing
     c.before.before.before.before.before.before.before.before.before.before.before.before.before.before.before.before)
-    (data-lent c.before.before.before.before.before.before.before.before.before.before.before.before.before.before.before.before.before.before.before.requires.0
+    (data_lent_lem c.before.before.before.before.before.before.before.before.before.before.before.before.before.before.before.before.before.before.before.requires.0
     c.before.before.before.before.before.before.before.before.before.before.before.before.data-end.ensures) (accepting c.before.before.before.before.before) c.answer3.ensures
     c.before.before.before.commit.ensures
     c.before.before.before.before.before.before.before.before.write-reply.ensures

@@ -3,7 +3,7 @@ use mathlib.Core.Path.{subst}
 use native.Mathlib.Omega.{arith}
 use Rattle.format.specs.Judging.{Judges}
 use Rattle.format.proofs.JudgingLaws.{judged_formed}
-use Rattle.format.proofs.KnownLaws.{known-room}
+use Rattle.format.proofs.KnownLaws.{known_room}
 use Rattle.container.proofs.DataLaws.{lent_length, lent-malformed, lent_formed}
 use borrow.Author.Rules.{rules}
 use Rattle.container.proofs.data.find_data.Statement.{statement}
@@ -25,7 +25,7 @@ data-end-requires : tie.Need-data-end-requires
 data-end-requires c κs =
     let k = judged_formed _ _ (subst (Judges _) c.before.frame.given.1
     c.before.before.before.judge.ensures) in
-    omega (arith, known-room k)
+    omega (arith, known_room k)
 
 returns : tie.Need-returns
 returns c = lent_length _ (subst (Judges _) c.enum_told.given.1 c.before.before.judge.ensures)

@@ -2,7 +2,7 @@
 use mathlib.Core.Path.{sym, ◌∙◌}
 use native.Mathlib.Omega.{arith}
 use Rattle.format.proofs.JudgingLaws.{too_short, too_long, length-true, found_agree, found_disagree}
-use Rattle.format.proofs.JudgingLaws.{judge_length, judge_fields, judge-formed, judge-contents}
+use Rattle.format.proofs.JudgingLaws.{judge_length, judge_fields, judge_formed, judge_contents}
 use Rattle.format.proofs.judging.judge.Goals as goal
 
 pub returns-then-c-lt-LEAST : goal.returns-then-c-lt-LEAST
@@ -23,7 +23,7 @@ contents_ok-requires c = (
 
 pub returns-then-contents_ok : goal.returns-then-contents_ok
 returns-then-contents_ok c =
-    judge-formed _ _ (length-true _ c.if-c-lt-LEAST.false c.if-c-gt-LIMIT.false)
+    judge_formed _ _ (length-true _ c.if-c-lt-LEAST.false c.if-c-gt-LIMIT.false)
     (sym c.in-Agree.is ∙ c.find_fields.ensures)
     (sym c.contents_ok.ensures ∙ c.if-contents_ok.true)
 
@@ -34,6 +34,6 @@ returns-in-Disagree c =
 
 pub returns-else-contents_ok : goal.returns-else-contents_ok
 returns-else-contents_ok c =
-    judge-contents _ _ (length-true _ c.if-c-lt-LEAST.false c.if-c-gt-LIMIT.false)
+    judge_contents _ _ (length-true _ c.if-c-lt-LEAST.false c.if-c-gt-LIMIT.false)
     (sym c.in-Agree.is ∙ c.find_fields.ensures)
     (sym c.contents_ok.ensures ∙ c.if-contents_ok.false)

@@ -10,7 +10,7 @@ use Rattle.octets.specs.Facts.{Octets}
 use Rattle.format.specs.Layout.{count_size}
 use Rattle.format.proofs.WellFormed.{used_is}
 use Rattle.leases.proofs.PlaceLaws.{known_bounds}
-use Rattle.leases.proofs.ChangeLaws.{put-extra}
+use Rattle.leases.proofs.ChangeLaws.{put_extra}
 use Rattle.leases.proofs.changes.append_record.Statement.{statement}
 use Rattle.leases.proofs.changes.append_record.Tie as tie
 
@@ -54,7 +54,7 @@ returns c =
     let n : List ℕ = digits count_size (a.frame.extras + 1) in
     let e = p.copy-part.ensures ∙ ap (λ (i : ℕ). put i a.lease.now a.c.now) p.before.used.ensures in
     c.before.before.put-u32.ensures ∙ ap (put a.frame.offset n) e
-    ∙ put-extra a.c.now a.frame s.requires.0 o a.lease.now s.requires.1 s.requires.2
+    ∙ put_extra a.c.now a.frame s.requires.0 o a.lease.now s.requires.1 s.requires.2
 
 pub append-record-spec : {M : Type 1} → statement M
 append-record-spec =

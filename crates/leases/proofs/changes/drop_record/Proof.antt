@@ -9,7 +9,7 @@ use Rattle.octets.specs.Moves.{put}
 use Rattle.format.specs.Layout.{record_size}
 use Rattle.format.specs.Parts.{no_lease}
 use Rattle.leases.proofs.PlaceLaws.{known_bounds, Inside, inside}
-use Rattle.leases.proofs.ChangeLaws.{drop-place}
+use Rattle.leases.proofs.ChangeLaws.{drop_place}
 use Rattle.leases.proofs.changes.drop_record.Statement.{statement}
 use Rattle.leases.proofs.changes.drop_record.Tie as tie
 
@@ -49,8 +49,8 @@ returns c =
     let e =
     z.clear-part.ensures
     ∙ ap₂ (λ (i m : ℕ). put i (replicate m 0) a.c.now) p.place_at.ensures w in
-    c.before.before.drop-tail.ensures
-    ∙ drop-place a.c.now a.frame s.requires.0 o a.i s.requires.1 z.clear-part.new.0 e
+    c.before.before.drop_tail_lem.ensures
+    ∙ drop_place a.c.now a.frame s.requires.0 o a.i s.requires.1 z.clear-part.new.0 e
 
 pub drop-record-spec : {M : Type 1} → statement M
 drop-record-spec =

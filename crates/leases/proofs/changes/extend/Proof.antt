@@ -4,7 +4,7 @@ use native.Mathlib.Omega.{arith}
 use borrow.Author.Rules.{rules}
 use Rattle.octets.specs.Facts.{Octets}
 use Rattle.leases.proofs.PlaceLaws.{known_bounds, Inside, inside}
-use Rattle.leases.proofs.ChangeLaws.{put-expiry, keep-expiry}
+use Rattle.leases.proofs.ChangeLaws.{put_expiry, keep_expiry}
 use Rattle.leases.proofs.changes.extend.Statement.{statement}
 use Rattle.leases.proofs.changes.extend.Tie as tie
 
@@ -43,7 +43,7 @@ returns c =
     let s = p.before.before in
     let a = s.args in
     c.before.before.put-u32.ensures
-    ∙ put-expiry a.c.now a.frame s.requires.0 (octets p.before) a.i a.expiry _ s.requires.1
+    ∙ put_expiry a.c.now a.frame s.requires.0 (octets p.before) a.i a.expiry _ s.requires.1
     p.place_at.ensures (omega (arith, n.u32-at.ensures))
 
 same-length-2 : tie.Need-same-length-2
@@ -55,7 +55,7 @@ returns-2 c =
     let p = n.before.before in
     let s = p.before.before in
     let a = s.args in
-    keep-expiry a.c.now a.frame s.requires.0 (octets p.before) a.i a.expiry _ s.requires.1
+    keep_expiry a.c.now a.frame s.requires.0 (octets p.before) a.i a.expiry _ s.requires.1
     p.place_at.ensures (omega (arith, n.u32-at.ensures))
 
 pub extend-spec : {M : Type 1} → statement M

@@ -6,7 +6,7 @@ use borrow.Author.Rules.{rules}
 use Rattle.octets.specs.Moves.{put}
 use Rattle.octets.specs.Facts.{Octets}
 use Rattle.leases.proofs.PlaceLaws.{known_bounds, place_inside}
-use Rattle.leases.proofs.ChangeLaws.{put-place}
+use Rattle.leases.proofs.ChangeLaws.{put_place}
 use Rattle.leases.proofs.changes.put_record.Statement.{statement}
 use Rattle.leases.proofs.changes.put_record.Tie as tie
 
@@ -29,7 +29,7 @@ returns c =
     let a = s.args in
     let o : Octets a.c.now = λ j. omega (arith, k.slice-known.given j) in
     c.before.before.copy-part.ensures ∙ ap (λ (m : ℕ). put m a.lease.now a.c.now) p.place_at.ensures
-    ∙ put-place a.c.now a.frame s.requires.0 o a.i a.lease.now s.requires.1 s.requires.2
+    ∙ put_place a.c.now a.frame s.requires.0 o a.i a.lease.now s.requires.1 s.requires.2
 
 pub put-record-spec : {M : Type 1} → statement M
 put-record-spec = tie.close (tie.spec place-at-requires copy-part-requires same_length returns)

@@ -8,7 +8,7 @@ use lib.Seq.{length-take-le}
 use borrow.Author.Rules.{rules}
 use Rattle.format.specs.Layout.{renewal_at, renewal_of, record_size, secret_size}
 use Rattle.leases.specs.Places.{has_token}
-use Rattle.leases.proofs.OperationLaws.{Finds, found_inside, add-here, add-new}
+use Rattle.leases.proofs.OperationLaws.{Finds, found_inside, add_here, add_new}
 use Rattle.leases.specs.declared.places.Found.TheVariants.{At, Nowhere}
 use Rattle.leases.proofs.operations.add_lease.Statement.{statement}
 use Rattle.leases.proofs.operations.add_lease.Tie as tie
@@ -54,7 +54,7 @@ place-new-requires c κs =
       s.requires.0,
       s.requires.1,
       s.requires.2,
-      add-new s.args.c.now _ s.requires.0 s.args.lease.now
+      add_new s.args.c.now _ s.requires.0 s.args.lease.now
           (subst (λ (t : List ℕ). Finds s.args.c.now (has_token renewal_at t) Nowhere) s.requires.3
           (sym c.before.enum_told.given.1 ∙ w.find.ensures)),
     )
@@ -67,7 +67,7 @@ returns c =
     let n = c.before.before.before.before in
     let i = n.before.before.before in
     let s = i.before.before.before.before.before.before.before in
-    add-here s.args.c.now _ s.requires.0 s.args.lease.now _ _ _ _ (here i) n.count-leases.ensures
+    add_here s.args.c.now _ s.requires.0 s.args.lease.now _ _ _ _ (here i) n.count-leases.ensures
     s.requires.4 c.before.before.extend.ensures
 
 same-length-2 : tie.Need-same-length-2

@@ -4,7 +4,7 @@ use native.Mathlib.Omega.{arith}
 use borrow.Author.Rules.{rules}
 use Rattle.format.specs.Layout.{cancel_at}
 use Rattle.leases.specs.Places.{has_token}
-use Rattle.leases.proofs.OperationLaws.{Finds, found_inside, cancelled-present, cancel-here, cancel-unknown}
+use Rattle.leases.proofs.OperationLaws.{Finds, found_inside, cancelled-present, cancel_here, cancel_unknown}
 use Rattle.leases.specs.declared.places.Found.TheVariants.{At}
 use Rattle.leases.proofs.operations.cancel_lease.Statement.{statement}
 use Rattle.leases.proofs.operations.cancel_lease.Tie as tie
@@ -51,7 +51,7 @@ returns c =
     let n = c.before.before.before.before in
     let i = n.before.before.before in
     let s = i.before.before.before.before.before.before in
-    cancel-here s.args.c.now _ s.requires.0 s.args.token.now _ _ _ (here i) n.count-leases.ensures
+    cancel_here s.args.c.now _ s.requires.0 s.args.token.now _ _ _ (here i) n.count-leases.ensures
     c.before.before.drop-record.ensures
 
 same-length-2 : tie.Need-same-length-2
@@ -61,7 +61,7 @@ returns-2 : tie.Need-returns-2
 returns-2 c =
     let w = c.before.before in
     let s = w.before.before.before.before in
-    cancel-unknown s.args.c.now _ s.requires.0 s.args.token.now
+    cancel_unknown s.args.c.now _ s.requires.0 s.args.token.now
     (sym c.enum_told.given.1 ∙ w.find.ensures)
 
 pub cancel-lease-spec : {M : Type 1} → statement M

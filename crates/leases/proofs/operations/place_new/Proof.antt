@@ -7,8 +7,8 @@ use Rattle.format.specs.Layout.{used_length}
 use Rattle.format.specs.declared.layout.Frame.{Frame}
 use Rattle.rules.specs.Leasing.{vacant}
 use Rattle.leases.proofs.PlaceLaws.{known_bounds}
-use Rattle.leases.proofs.OperationLaws.{Finds, found_inside, place-full, place-vacant, place-nowhere}
-use Rattle.leases.proofs.OperationLaws.{place-extra}
+use Rattle.leases.proofs.OperationLaws.{Finds, found_inside, place_full, place_vacant, place_nowhere}
+use Rattle.leases.proofs.OperationLaws.{place_extra}
 use Rattle.leases.specs.declared.places.Found.TheVariants.{At, Nowhere}
 use Rattle.leases.proofs.operations.place_new.Statement.{statement}
 use Rattle.leases.proofs.operations.place_new.Tie as tie
@@ -39,7 +39,7 @@ same_length c = search rules
 returns : tie.Need-returns
 returns c =
     let s = c.before.before.before.before.before in
-    place-full s.args.c.now _ s.requires.0 s.args.lease.now s.requires.3
+    place_full s.args.c.now _ s.requires.0 s.args.lease.now s.requires.3
     (omega (arith, c.before.count-leases.ensures, c.if1.true))
 
 find-vacant-requires : tie.Need-find-vacant-requires
@@ -81,7 +81,7 @@ returns-2 c =
     let w = c.before.before.before in
     let n = w.before.before.before.before.before in
     let s = n.before.before.before.before in
-    place-nowhere s.args.c.now _ s.requires.0 s.args.lease.now s.requires.3 _ (omega arith)
+    place_nowhere s.args.c.now _ s.requires.0 s.args.lease.now s.requires.3 _ (omega arith)
     n.count-leases.ensures (nowhere w) (omega (arith, more-used c.before))
 
 append-record-requires : tie.Need-append-record-requires
@@ -100,7 +100,7 @@ returns-3 c =
     let i = c.before.before.before.before.before in
     let n = i.before.before.before.before.before in
     let s = n.before.before.before.before in
-    place-vacant s.args.c.now _ s.requires.0 s.args.lease.now s.requires.3 _ (omega arith)
+    place_vacant s.args.c.now _ s.requires.0 s.args.lease.now s.requires.3 _ (omega arith)
     n.count-leases.ensures _ _ (here i) s.requires.2 c.before.before.put_record.ensures
 
 same-length-4 : tie.Need-same-length-4
@@ -112,7 +112,7 @@ returns-4 c =
     let w = u.before.before in
     let n = w.before.before.before.before.before in
     let s = n.before.before.before.before in
-    place-extra s.args.c.now _ s.requires.0 s.args.lease.now s.requires.3 _ (omega arith)
+    place_extra s.args.c.now _ s.requires.0 s.args.lease.now s.requires.3 _ (omega arith)
     n.count-leases.ensures (nowhere w) _ (omega (arith, more-used u)) s.requires.2
     c.before.before.append-record.ensures
 

@@ -3,7 +3,7 @@ use mathlib.Core.Path.{sym, ◌∙◌}
 use borrow.Author.Rules.{rules}
 use Rattle.format.specs.Layout.{renewal_at}
 use Rattle.leases.specs.Places.{has_token}
-use Rattle.leases.proofs.OperationLaws.{Finds, found_inside, renew-here, renew-unknown}
+use Rattle.leases.proofs.OperationLaws.{Finds, found_inside, renew_here, renew_unknown}
 use Rattle.leases.specs.declared.places.Found.TheVariants.{At}
 use Rattle.leases.proofs.operations.renew_lease.Statement.{statement}
 use Rattle.leases.proofs.operations.renew_lease.Tie as tie
@@ -39,7 +39,7 @@ returns c =
     let n = c.before.before.before.before in
     let i = n.before.before.before in
     let s = i.before.before.before.before.before.before in
-    renew-here s.args.c.now _ s.requires.0 s.args.token.now s.args.expiry _ _ _ (here i)
+    renew_here s.args.c.now _ s.requires.0 s.args.token.now s.args.expiry _ _ _ (here i)
     n.count-leases.ensures c.before.before.extend.ensures
 
 same-length-2 : tie.Need-same-length-2
@@ -49,7 +49,7 @@ returns-2 : tie.Need-returns-2
 returns-2 c =
     let w = c.before.before in
     let s = w.before.before.before.before in
-    renew-unknown s.args.c.now _ s.requires.0 s.args.token.now s.args.expiry
+    renew_unknown s.args.c.now _ s.requires.0 s.args.token.now s.args.expiry
     (sym c.enum_told.given.1 ∙ w.find.ensures)
 
 pub renew-lease-spec : {M : Type 1} → statement M

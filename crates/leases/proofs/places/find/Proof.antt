@@ -4,7 +4,7 @@ use Prim.Native.Nat.{◌+◌, ◌-◌, ◌≤◌}
 use native.Mathlib.Omega.{arith}
 use borrow.Author.Count.{below_none}
 use Rattle.leases.specs.Places.{has_token, found_of}
-use Rattle.leases.proofs.PlaceLaws.{known_bounds, place_inside, passed_here, passed-more, passed-all, Passed}
+use Rattle.leases.proofs.PlaceLaws.{known_bounds, place_inside, passed_here, passed_more, passed_all, Passed}
 use Rattle.format.specs.Layout.{fixed_places}
 use Rattle.leases.proofs.places.find.Statement.{statement}
 use Rattle.leases.proofs.places.find.Tie as tie
@@ -58,7 +58,7 @@ loop-again c =
     let s = l.before.before.before.before in
     let a = s.args in (
       omega arith,
-      passed-more (has_token a.field a.token.now) a.c.now _ s.requires.0 l.loop.i l.loop.invariant.1 _
+      passed_more (has_token a.field a.token.now) a.c.now _ s.requires.0 l.loop.i l.loop.invariant.1 _
           (omega arith) p.place_at.ensures (sym c.before.has-token.ensures ∙ c.if1.false),
     )
 
@@ -66,7 +66,7 @@ returns-2 : tie.Need-returns-2 invariant-loop decreases-loop
 returns-2 c =
     let l = c.before in
     let s = l.before.before.before.before in
-    sym (ap found_of (passed-all _ s.args.c.now _ s.requires.0 l.loop.i l.loop.invariant.1 (omega arith)))
+    sym (ap found_of (passed_all _ s.args.c.now _ s.requires.0 l.loop.i l.loop.invariant.1 (omega arith)))
 
 pub find_spec : {M : Type 1} → statement M
 find_spec =

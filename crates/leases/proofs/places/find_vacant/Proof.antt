@@ -6,7 +6,7 @@ use native.Mathlib.Omega.{arith}
 use borrow.Author.Count.{below_none}
 use Rattle.rules.specs.Leasing.{vacant}
 use Rattle.leases.specs.Places.{found_of}
-use Rattle.leases.proofs.PlaceLaws.{known_bounds, place_inside, passed_here, passed-more, passed-all, Passed}
+use Rattle.leases.proofs.PlaceLaws.{known_bounds, place_inside, passed_here, passed_more, passed_all, Passed}
 use Rattle.format.specs.Layout.{fixed_places}
 use Rattle.leases.proofs.places.find_vacant.Statement.{statement}
 use Rattle.leases.proofs.places.find_vacant.Tie as tie
@@ -61,7 +61,7 @@ loop-again c =
     let l = p.before.before in
     let s = l.before.before.before in (
       omega arith,
-      passed-more vacant s.args.c.now _ s.requires l.loop.i l.loop.invariant.1 _ (omega arith)
+      passed_more vacant s.args.c.now _ s.requires l.loop.i l.loop.invariant.1 _ (omega arith)
           p.place_at.ensures (ap not (sym c.before.is_held_lem.ensures) ∙ c.if1.false),
     )
 
@@ -69,7 +69,7 @@ returns-2 : tie.Need-returns-2 invariant-loop decreases-loop
 returns-2 c =
     let l = c.before in
     let s = l.before.before.before in
-    sym (ap found_of (passed-all _ s.args.c.now _ s.requires l.loop.i l.loop.invariant.1 (omega arith)))
+    sym (ap found_of (passed_all _ s.args.c.now _ s.requires l.loop.i l.loop.invariant.1 (omega arith)))
 
 pub find-vacant-spec : {M : Type 1} → statement M
 find-vacant-spec =

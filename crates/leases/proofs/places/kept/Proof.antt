@@ -5,7 +5,7 @@ use native.Mathlib.Omega.{arith}
 use lib.ListN.{length}
 use Rattle.format.specs.Layout.{records}
 use Rattle.rules.specs.Leasing.{trim}
-use Rattle.leases.proofs.PlaceLaws.{kept-all, kept-fewer, kept-none}
+use Rattle.leases.proofs.PlaceLaws.{kept_all, kept_fewer, kept-none}
 use Rattle.leases.proofs.places.kept.Statement.{statement}
 use Rattle.leases.proofs.places.kept.Tie as tie
 
@@ -35,7 +35,7 @@ returns c =
     let l = c.before.before.before in
     let a = l.before.before.args in
     let h = sym c.before.is_held_lem.ensures ∙ c.if1.true in
-    sym (ap length l.loop.invariant.1 ∙ kept-all l.loop.left a.from a.c.now (omega arith) h)
+    sym (ap length l.loop.invariant.1 ∙ kept_all l.loop.left a.from a.c.now (omega arith) h)
 
 sub-left : tie.Need-overflow-sub-left invariant-loop decreases-loop
 sub-left c = omega arith
@@ -48,7 +48,7 @@ loop-again c =
     let l = c.before.before.before in
     let a = l.before.before.args in
     let h = sym c.before.is_held_lem.ensures ∙ c.if1.false in
-    (omega arith, l.loop.invariant.1 ∙ kept-fewer l.loop.left a.from a.c.now (omega arith) h)
+    (omega arith, l.loop.invariant.1 ∙ kept_fewer l.loop.left a.from a.c.now (omega arith) h)
 
 returns-2 : tie.Need-returns-2 invariant-loop decreases-loop
 returns-2 c =

@@ -9,8 +9,8 @@ use Rattle.rules.specs.Requests.{writes_from}
 use Rattle.stretches.specs.List.{rows_from}
 use Rattle.requests.specs.declared.cursors.Entry.{Entry}
 use Rattle.requests.proofs.CursorLaws.{entry_resolved}
-use Rattle.writes.proofs.TableLaws.{Rest, rest_start, rest_fits, Taken, entry-bounds}
-use Rattle.listed_slot.proofs.FollowingLaws.{Following, following_start, following-next, following-end}
+use Rattle.writes.proofs.TableLaws.{Rest, rest_start, rest_fits, Taken, entry_bounds}
+use Rattle.listed_slot.proofs.FollowingLaws.{Following, following_start, following_next, following_end}
 use Rattle.listed_slot.proofs.following.follow_writes.Statement.{statement}
 use Rattle.listed_slot.proofs.following.follow_writes.Tie as tie
 
@@ -65,7 +65,7 @@ write-over-requires c κs =
     let l = r.before.before.before.before in
     let s = l.before.before.before.before.before in
     let F = l.loop.invariant _ (rest_start _ _ s.requires.0) in
-    let b = entry-bounds (taken r _ F.rest) (octets r) s.requires.0.short _ s.requires.1.0 F.small in
+    let b = entry_bounds (taken r _ F.rest) (octets r) s.requires.0.short _ s.requires.1.0 F.small in
     (F.ready, (omega (arith, F.room), b))
 
 grown-requires : tie.Need-grown-requires invariant-loop decreases-loop
@@ -74,7 +74,7 @@ grown-requires c κs =
     let l = r.before.before.before.before in
     let s = l.before.before.before.before.before in
     let F = l.loop.invariant _ (rest_start _ _ s.requires.0) in
-    entry-bounds (taken r _ F.rest) (octets r) s.requires.0.short _ s.requires.1.0 F.small
+    entry_bounds (taken r _ F.rest) (octets r) s.requires.0.short _ s.requires.1.0 F.small
 
 sub-left : tie.Need-overflow-sub-left invariant-loop decreases-loop
 sub-left c = search rules
@@ -90,7 +90,7 @@ loop-again c b r =
     let l = y.before.before.before.before in
     let s = l.before.before.before.before.before in
     let F = l.loop.invariant b r in
-    following-next F (taken y _ F.rest) s.requires.0.short s.requires.1.0 _ _ _ w.write-over.ensures
+    following_next F (taken y _ F.rest) s.requires.0.short s.requires.1.0 _ _ _ w.write-over.ensures
     g.grown.ensures
 
 same_length : tie.Need-same-length invariant-loop decreases-loop
@@ -103,7 +103,7 @@ returns : tie.Need-returns invariant-loop decreases-loop
 returns c =
     let s = c.before.before.before.before.before.before in
     let F = c.before.loop.invariant _ (rest_start _ _ s.requires.0) in
-    (following-end F c.loop-test.false, (F.ready, omega (arith, F.room)))
+    (following_end F c.loop-test.false, (F.ready, omega (arith, F.room)))
 
 pub follow-writes-spec : {M : Type 1} → statement M
 follow-writes-spec =

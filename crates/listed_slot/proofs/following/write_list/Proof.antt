@@ -1,7 +1,7 @@
 -- The rows of the list, followed through the request: written back unless they are too many.
 use mathlib.Core.Path.{refl, ap, ◌∙◌}
 use Rattle.stretches.specs.List.{list_bytes}
-use Rattle.listed_slot.proofs.FollowingLaws.{few-listed, loaded, held-few, held-many}
+use Rattle.listed_slot.proofs.FollowingLaws.{few_listed, loaded, held_few, held-many}
 use borrow.Author.Rules.{rules}
 use Rattle.listed_slot.proofs.following.write_list.Statement.{statement}
 use Rattle.listed_slot.proofs.following.write_list.Tie as tie
@@ -12,7 +12,7 @@ slice-aggregate-load c = search rules
 load-requires : tie.Need-load-requires
 load-requires c κs =
     let s = c.before.before.before.before in
-    (s.requires.1.1.0, (few-listed _ s.requires.1.1.1, refl))
+    (s.requires.1.1.0, (few_listed _ s.requires.1.1.1, refl))
 
 slice-aggregate-follow : tie.Need-slice-aggregate-follow
 slice-aggregate-follow c = search rules
@@ -46,7 +46,7 @@ returns-2 c =
     let f = c.before.before.before.before.before.before.before in
     let e = f.before.before.before.load.ensures.1.0 in
     let h = rw e at f.follow.ensures in (
-      held-few h c.before.before.before.before.before.if1.false,
+      held_few h c.before.before.before.before.before.if1.false,
       c.before.before.store.ensures ∙ ap list_bytes h.rows,
     )
 

@@ -5,7 +5,7 @@ use Rattle.format.specs.Judging.{Judges}
 use Rattle.format.proofs.JudgingLaws.{judged_formed, judged-malformed, judged-length}
 use Rattle.rules.proofs.RefusalLaws.{bad_length, malformed}
 use Rattle.container.specs.Looking.{read_of}
-use Rattle.listed_slot.proofs.ServingLaws.{malformed-length, malformed-served}
+use Rattle.listed_slot.proofs.ServingLaws.{malformed-length, malformed_served}
 use borrow.Author.Rules.{rules}
 use Rattle.listed_slot.proofs.looking.read_only.Statement.{statement}
 use Rattle.listed_slot.proofs.looking.read_only.Tie as tie
@@ -39,7 +39,7 @@ returns c =
     let j = c.before.before.before.judge.ensures in
     let l = judged-length _ (subst (Judges _) c.before.enum_told.given.1 j) in
     let q = read_of a.q.now in
-    let z = malformed-served a.c.now a.l.now q a.r.now 1 (omega arith) (malformed-length _ l)
+    let z = malformed_served a.c.now a.l.now q a.r.now 1 (omega arith) (malformed-length _ l)
     (bad_length a.c.now q a.r.now l) c.answer.ensures in
     (z.0, z.1.1.1)
 
@@ -49,7 +49,7 @@ returns-2 c =
     let j = c.before.before.before.judge.ensures in
     let m = judged-malformed _ (subst (Judges _) c.before.enum-told2.given.1 j) in
     let q = read_of a.q.now in
-    let z = malformed-served a.c.now a.l.now q a.r.now 2 (omega arith) m.1
+    let z = malformed_served a.c.now a.l.now q a.r.now 2 (omega arith) m.1
     (malformed a.c.now q a.r.now m.0 m.1) c.answer2.ensures in
     (z.0, z.1.1.1)
 

@@ -4,7 +4,7 @@ use native.Mathlib.Omega.{arith}
 use Rattle.format.specs.Judging.{Judges}
 use Rattle.format.proofs.JudgingLaws.{judged_formed, judged-malformed, judged-length}
 use Rattle.rules.proofs.RefusalLaws.{bad_length, malformed}
-use Rattle.listed_slot.proofs.ServingLaws.{malformed-length, malformed-served}
+use Rattle.listed_slot.proofs.ServingLaws.{malformed-length, malformed_served}
 use borrow.Author.Rules.{rules}
 use Rattle.listed_slot.proofs.requesting.apply.Statement.{statement}
 use Rattle.listed_slot.proofs.requesting.apply.Tie as tie
@@ -40,7 +40,7 @@ returns c =
     let a = c.before.before.before.before.before.before.before.before.before.args in
     let j = c.before.before.before.judge.ensures in
     let l = judged-length _ (subst (Judges _) c.before.enum_told.given.1 j) in
-    malformed-served a.c.now a.l.now a.q.now a.r.now 1 (omega arith) (malformed-length _ l)
+    malformed_served a.c.now a.l.now a.q.now a.r.now 1 (omega arith) (malformed-length _ l)
     (bad_length a.c.now a.q.now a.r.now l) c.answer.ensures
 
 same-length-2 : tie.Need-same-length-2
@@ -51,7 +51,7 @@ returns-2 c =
     let a = c.before.before.before.before.before.before.before.before.before.args in
     let j = c.before.before.before.judge.ensures in
     let m = judged-malformed _ (subst (Judges _) c.before.enum-told2.given.1 j) in
-    malformed-served a.c.now a.l.now a.q.now a.r.now 2 (omega arith) m.1
+    malformed_served a.c.now a.l.now a.q.now a.r.now 2 (omega arith) m.1
     (malformed a.c.now a.q.now a.r.now m.0 m.1) c.answer2.ensures
 
 same-length-3 : tie.Need-same-length-3

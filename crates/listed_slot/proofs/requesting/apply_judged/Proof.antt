@@ -3,10 +3,10 @@ use mathlib.Core.Path.{◌≡◌, sym, ap, subst, ◌∙◌}
 use native.Mathlib.Omega.{arith}
 use borrow.Author.Tests.{not-true, not-false}
 use Rattle.format.specs.Layout.{data_of}
-use Rattle.format.proofs.KnownLaws.{known-room, data-lent}
+use Rattle.format.proofs.KnownLaws.{known_room, data_lent_lem}
 use Rattle.requests.specs.Forms.{Takes}
 use Rattle.stretches.specs.List.{list_ok}
-use Rattle.listed_slot.proofs.ServingLaws.{Still, still_form, bad-list, still-served}
+use Rattle.listed_slot.proofs.ServingLaws.{Still, still_form, bad_list_lem, still_served}
 use borrow.Author.Rules.{rules}
 use Rattle.listed_slot.proofs.requesting.apply_judged.Statement.{statement}
 use Rattle.listed_slot.proofs.requesting.apply_judged.Tie as tie
@@ -17,11 +17,11 @@ judged : (c : tie.After-list-ok)
     list_ok a.l.now (data_of a.c.now) ≡ c.list-ok.result
 judged c =
     let s = c.before.before.before.before.before.before.before.before.before in
-    let d = data-lent s.requires c.before.before.before.before.data-end.ensures in
+    let d = data_lent_lem s.requires c.before.before.before.before.data-end.ensures in
     sym (c.list-ok.ensures ∙ ap (list_ok s.args.l.now) d)
 
 data-end-requires : tie.Need-data-end-requires
-data-end-requires c κs = omega (arith, known-room c.before.before.before.before.requires)
+data-end-requires c κs = omega (arith, known_room c.before.before.before.before.requires)
 
 sub-list-ok : tie.Need-overflow-sub-list-ok
 sub-list-ok c = search rules
@@ -32,7 +32,7 @@ part-list-ok-start c = search rules
 part-list-ok-end : tie.Need-slice-bounds-list-ok-end
 part-list-ok-end c =
     let d = c.before.before in
-    omega (arith, d.data-end.ensures, known-room d.before.before.before.before.before.requires)
+    omega (arith, d.data-end.ensures, known_room d.before.before.before.before.before.requires)
 
 list-ok-requires : tie.Need-list-ok-requires
 list-ok-requires c κs = search rules
@@ -51,7 +51,7 @@ returns c =
     let j = c.before.before in
     let s = j.before.before.before.before.before.before.before.before.before in
     let a = s.args in
-    bad-list a.c.now a.l.now a.q.now a.r.now s.requires.formed
+    bad_list_lem a.c.now a.l.now a.q.now a.r.now s.requires.formed
     (judged j ∙ not-true _ c.before.if1.true) c.answer.ensures
 
 form-of-requires : tie.Need-form-of-requires
@@ -104,7 +104,7 @@ returns-3 c =
     let o = subst Still f.form_of.ensures.asks
     (still_form a.q.now f.form_of.result m.match.keys2) in
     let h = c.before.before.before.before.apply-formed.ensures in
-    still-served a.c.now a.l.now a.q.now a.r.now s.requires.formed
+    still_served a.c.now a.l.now a.q.now a.r.now s.requires.formed
     (judged j ∙ not-false _ f.before.if1.false) o h.0 h.1.0 h.1.1
 
 pub apply-judged-spec : {M : Type 1} → statement M

@@ -2,7 +2,7 @@
 use mathlib.Core.Path.{sym, ◌∙◌}
 use borrow.Author.Tests.{not-true, not-false}
 use Rattle.writing.proofs.WriteRequestLaws.{Writing, number_is}
-use Rattle.listed_slot.proofs.ServingLaws.{refused-served, list-storable, many-refused, list_written}
+use Rattle.listed_slot.proofs.ServingLaws.{refused_served, list_storable, many-refused, list_written}
 use borrow.Author.Rules.{rules}
 use Rattle.listed_slot.proofs.requesting.write_beside.Statement.{statement}
 use Rattle.listed_slot.proofs.requesting.write_beside.Tie as tie
@@ -34,13 +34,13 @@ returns c =
     let s = v.before.before.before.before.before.before in
     let a = s.args in
     let h = c.before.before.before.before.settle.ensures in
-    refused-served a.c.now a.l.now a.q.now a.r.now s.requires.0.formed s.requires.1.1
+    refused_served a.c.now a.l.now a.q.now a.r.now s.requires.0.formed s.requires.1.1
     (λ z. i.if1.true (sym (number_is (writing v)) ∙ z)) h.0 h.1.0 h.1.1
 
 write-list-requires : tie.Need-write-list-requires
 write-list-requires c κs =
     let s = c.before.before.before.before.before.before.before.before in
-    list-storable s.args.l.now s.requires.0 s.requires.1.0 s.requires.1.1
+    list_storable s.args.l.now s.requires.0 s.requires.1.0 s.requires.1.1
 
 answer-requires : tie.Need-answer-requires
 answer-requires c κs = search rules

@@ -3,7 +3,7 @@ use Prim.Native.Nat.{◌+◌, ◌*◌, ◌-◌}
 use native.Mathlib.Omega.{arith}
 use borrow.Author.Tests.{not-true, not-false}
 use Rattle.stretches.specs.List.{rows_at, row_size}
-use Rattle.lists.proofs.JudgeLaws.{ok-length, ok-count, ok-rest, ok_rows}
+use Rattle.lists.proofs.JudgeLaws.{ok_length, ok_count, ok_rest, ok_rows}
 use borrow.Author.Rules.{rules}
 use Rattle.lists.proofs.list.list_ok.Statement.{statement}
 use Rattle.lists.proofs.list.list_ok.Tie as tie
@@ -15,7 +15,7 @@ use Rattle.octets.proofs.strings.all_zero.Reads as all-zero-reads
 
 -- src/list.rt:64:9
 returns : tie.Need-returns
-returns c = let a = c.before.before.before.args in ok-length a.l.now a.d.now c.if1.true
+returns c = let a = c.before.before.before.args in ok_length a.l.now a.d.now c.if1.true
 
 -- src/list.rt:66:13
 u32-at-requires : tie.Need-u32-at-requires
@@ -30,7 +30,7 @@ returns-2 : tie.Need-returns-2
 returns-2 c =
     let w = c.before in
     let a = w.before.before.before.before.args in
-    ok-count a.l.now a.d.now (omega arith) w.u32-at.result w.u32-at.ensures (omega arith)
+    ok_count a.l.now a.d.now (omega arith) w.u32-at.result w.u32-at.ensures (omega arith)
 
 -- src/list.rt:70:25
 mul-end : tie.Need-overflow-mul-end
@@ -62,7 +62,7 @@ returns-3 c =
     let z = c.before in
     let w = z.before.before.before in
     let a = w.before.before.before.before.args in
-    ok-rest a.l.now a.d.now (omega arith) w.u32-at.result w.u32-at.ensures (omega arith)
+    ok_rest a.l.now a.d.now (omega arith) w.u32-at.result w.u32-at.ensures (omega arith)
     z.all_zero_lem.result z.all_zero_lem.ensures (not-true _ c.if3.true)
 
 -- src/list.rt:74:13

@@ -1,6 +1,6 @@
 use mathlib.Core.Path.{sym, ◌∙◌}
 use native.Mathlib.Omega.{arith}
-use Rattle.lists.proofs.JudgeLaws.{span-low, span-empty, span-out, span_rest}
+use Rattle.lists.proofs.JudgeLaws.{span_low, span_empty, span_out, span_rest}
 use borrow.Author.Rules.{rules}
 use Rattle.lists.proofs.list.row_ok.Statement.{statement}
 use Rattle.lists.proofs.list.row_ok.Tie as tie
@@ -10,19 +10,19 @@ use Rattle.octets.proofs.strings.all_zero.Reads as all-zero-reads
 
 -- src/list.rt:29:9
 returns : tie.Need-returns
-returns c = let a = c.before.before.args in sym (span-low a.low a.row a.d.now (omega arith))
+returns c = let a = c.before.before.args in sym (span_low a.low a.row a.d.now (omega arith))
 
 -- src/list.rt:32:9
 returns-2 : tie.Need-returns-2
 returns-2 c =
     let a = c.before.before.before.args in
-    sym (span-empty a.low a.row a.d.now (omega arith) (omega arith))
+    sym (span_empty a.low a.row a.d.now (omega arith) (omega arith))
 
 -- src/list.rt:35:9
 returns-3 : tie.Need-returns-3
 returns-3 c =
     let a = c.before.before.before.before.args in
-    sym (span-out a.low a.row a.d.now (omega arith) (omega arith) (omega arith))
+    sym (span_out a.low a.row a.d.now (omega arith) (omega arith) (omega arith))
 
 -- src/list.rt:37:31
 sub-all-zero : tie.Need-overflow-sub-all-zero

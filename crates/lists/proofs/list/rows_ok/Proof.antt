@@ -3,7 +3,7 @@ use Prim.Native.Nat.{◌*◌, ◌-◌, ◌≤◌}
 use native.Mathlib.Omega.{arith}
 use borrow.Author.Tests.{not-true, not-false}
 use Rattle.stretches.specs.List.{row_size, rows_from}
-use Rattle.lists.proofs.JudgeLaws.{rows_good, span-inside, good_start, good-fails, good_turn, good_end}
+use Rattle.lists.proofs.JudgeLaws.{rows_good, span_inside, good_start, good_fails, good_turn, good_end}
 use Rattle.lists.proofs.list.rows_ok.Statement.{statement}
 use Rattle.lists.proofs.list.rows_ok.Tie as tie
 use Rattle.lists.proofs.list.rows_ok.Reads as reads
@@ -36,7 +36,7 @@ returns c =
     let w = c.before.before in
     let l = w.before.before.loop in
     let a = w.before.before.before.before.before.args in
-    good-fails a.t.now a.d.now a.n l.low l.i w.row_at.result _ (omega arith) w.row_at.ensures
+    good_fails a.t.now a.d.now a.n l.low l.i w.row_at.result _ (omega arith) w.row_at.ensures
     l.invariant.1 (sym c.before.row_ok.ensures ∙ not-true _ c.if1.true)
 
 -- src/list.rt:53:15
@@ -46,7 +46,7 @@ add_low c =
     let l = w.before.before.loop in
     let a = w.before.before.before.before.before.args in
     let e = sym c.before.before.row_ok.ensures ∙ not-false _ c.before.if1.false in
-    omega (arith, span-inside l.low w.row_at.result a.d.now e)
+    omega (arith, span_inside l.low w.row_at.result a.d.now e)
 
 -- src/list.rt:54:9
 add-i : tie.Need-overflow-add-i invariant-loop decreases-loop

@@ -1,7 +1,7 @@
 use Prim.Native.Nat.{◌*◌, ◌-◌}
 use native.Mathlib.Omega.{arith}
 use Rattle.stretches.specs.List.{row_size}
-use Rattle.lists.proofs.StoreLaws.{store-list}
+use Rattle.lists.proofs.StoreLaws.{store_list}
 use borrow.Author.Rules.{rules}
 use Rattle.lists.proofs.list.store.Statement.{statement}
 use Rattle.lists.proofs.list.store.Tie as tie
@@ -58,7 +58,7 @@ returns c =
     let w2 = w3.before.before.before.before in
     let w1 = w2.before.before.before.before.before in
     let s = w1.before.before.before.before in
-    store-list s.args.n (row_size * s.args.n - 0) s.args.l.now s.args.t.now
+    store_list s.args.n (row_size * s.args.n - 0) s.args.l.now s.args.t.now
     w1.put-u32.new.0 w2.copy-part.new.0 w3.clear-part.new.0
     (omega arith) (omega arith) (omega arith) (λ i. omega (arith, w1.before.before.shared-slice-known.given i))
     w1.put-u32.ensures (omega arith) w2.copy-part.ensures w3.clear-part.ensures

@@ -3,7 +3,7 @@ use mathlib.Core.Logic.{⊎_elim}
 use Prim.Native.Nat.{◌-◌}
 use native.Mathlib.Omega.{arith}
 use Rattle.lists.proofs.TableLaws.{push_is}
-use Rattle.lists.proofs.GapLaws.{gap-alone, gap-touch, gap-apart}
+use Rattle.lists.proofs.GapLaws.{gap_alone, gap_touch, gap_apart}
 use borrow.Author.Rules.{rules}
 use Rattle.lists.proofs.rows.add_gap.Statement.{statement}
 use Rattle.lists.proofs.rows.add_gap.Tie as tie
@@ -26,7 +26,7 @@ returns c =
     let w = p.before.before.before.before in
     let s = w.before.before.before.before in
     let a = s.args in
-    gap-touch a.t.now a.n a.size a.at s.requires.0 (omega arith) (a.n - 1) w.row_at.result
+    gap_touch a.t.now a.n a.size a.at s.requires.0 (omega arith) (a.n - 1) w.row_at.result
     (omega arith) w.row_at.ensures p.before.before.if2.true _ _
     (push_is a.t.now (a.n - 1) _ _ _ (omega arith) (omega arith) p.push.ensures)
 
@@ -45,9 +45,9 @@ returns-2 c =
     let k = push_is a.t.now a.n (record { from = a.size; to = a.at }) p.push2.new.0 p.push2.result
     (omega arith) (omega arith) p.push2.ensures in
     ⊎_elim
-    (λ x. gap-apart a.t.now a.n a.size a.at s.requires.0 (omega arith) (a.n - 1) x.2.result
+    (λ x. gap_apart a.t.now a.n a.size a.at s.requires.0 (omega arith) (a.n - 1) x.2.result
     (omega (arith, x.0.taken)) x.2.ensures x.4.left _ _ k)
-    (λ x. gap-alone a.t.now a.n a.size a.at s.requires.0 (omega arith) (omega (arith, x.left)) _ _ k)
+    (λ x. gap_alone a.t.now a.n a.size a.at s.requires.0 (omega arith) (omega (arith, x.left)) _ _ k)
     w.if1.branch
 
 pub add-gap-spec : {M : Type 1} → statement M

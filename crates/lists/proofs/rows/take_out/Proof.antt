@@ -3,7 +3,7 @@
 use Prim.Native.Nat.{◌-◌}
 use native.Mathlib.Omega.{arith}
 use Rattle.octets.proofs.ChoiceLaws.{least_is, most_is}
-use Rattle.lists.proofs.TakingLaws.{Taking, taking_start, turn-asks, taking-turn, taking_end}
+use Rattle.lists.proofs.TakingLaws.{Taking, taking_start, turn_asks, taking_turn, taking_end}
 use Rattle.lists.proofs.rows.take_out.Statement.{statement}
 use Rattle.lists.proofs.rows.take_out.Tie as tie
 
@@ -35,7 +35,7 @@ push-requires c κs =
     let s = l.before.before in
     let a = s.args in
     let o = l.loop in
-    turn-asks a.t.now a.n a.a a.e o.t o.i o.count o.held x.before.row_at.result o.invariant
+    turn_asks a.t.now a.n a.a a.e o.t o.i o.count o.held x.before.row_at.result o.invariant
     s.requires.1.0 s.requires.1.1 (omega arith) x.before.row_at.ensures x.lesser.result
     (least_is _ _ _ x.lesser.ensures) c.choose.result c.choose.ensures
 
@@ -56,7 +56,7 @@ loop-again c =
     let s = l.before.before in
     let a = s.args in
     let o = l.loop in
-    taking-turn a.t.now a.n a.a a.e o.t o.i o.count o.held x.before.row_at.result o.invariant
+    taking_turn a.t.now a.n a.a a.e o.t o.i o.count o.held x.before.row_at.result o.invariant
     s.requires.1.0 s.requires.1.1 (omega arith) x.before.row_at.ensures x.lesser.result
     (least_is _ _ _ x.lesser.ensures) p.before.choose.result p.before.choose.ensures c.greater.result
     (most_is _ _ _ c.greater.ensures) p.push.new.0 p.push.result p.push.ensures

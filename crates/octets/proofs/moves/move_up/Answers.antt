@@ -3,7 +3,7 @@ use native.Mathlib.Omega.{arith}
 use mathlib.Core.Path.{refl, ap, ◌∙◌}
 use Prim.Native.Nat.{◌-◌}
 use lib.ListN.{length-set}
-use Rattle.octets.proofs.MoveLaws.{up_to, up_start, up_more, up-end}
+use Rattle.octets.proofs.MoveLaws.{up_to, up_start, up_more, up_end}
 use Rattle.octets.proofs.moves.move_up.Goals as goal
 
 pub loop-j-init : goal.loop-j-init
@@ -22,4 +22,4 @@ loop-j-preserved c =
 pub returns : goal.returns
 returns c =
     let a = c.args in
-    c.loop-j.invariant.2 ∙ up-end a.b.now a.from a.to a.n c.loop-j.j (omega arith)
+    c.loop-j.invariant.2 ∙ up_end a.b.now a.from a.to a.n c.loop-j.j (omega arith)

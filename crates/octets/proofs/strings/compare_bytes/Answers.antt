@@ -4,7 +4,7 @@ use mathlib.Core.Path.{◌≡◌, refl, sym, ◌∙◌}
 use Prim.Native.Nat.{◌+◌}
 use lib.ListN.{drop, get_or}
 use Rattle.octets.specs.Strings.{order}
-use Rattle.octets.proofs.StringLaws.{by, by_less, by-more, by-same, order-byte, order-short, order-long}
+use Rattle.octets.proofs.StringLaws.{by, by_less, by_more, by_same, order_byte, order_short, order_long}
 use Rattle.octets.proofs.StringLaws.{order-end}
 use Rattle.octets.proofs.strings.compare_bytes.Goals as goal
 
@@ -14,7 +14,7 @@ loop-i-init c = (omega arith, omega arith, refl)
 pub returns-then-b-i : goal.returns-then-b-i
 returns-then-b-i c =
     let a = c.args in
-    sym (c.loop-i.invariant.2 ∙ order-long a.a.now a.b.now c.loop-i.i (omega arith) c.if-b-i.true)
+    sym (c.loop-i.invariant.2 ∙ order_long a.a.now a.b.now c.loop-i.i (omega arith) c.if-b-i.true)
 
 pub returns-then-x-y-2 : goal.returns-then-x-y-2
 returns-then-x-y-2 c =
@@ -22,7 +22,7 @@ returns-then-x-y-2 c =
     let b = c.args.b.now in
     let i = c.loop-i.i in
     order a b ≡ by (get_or a i 0) (get_or b i 0) (order (drop (i + 1) a) (drop (i + 1) b)) =
-    c.loop-i.invariant.2 ∙ order-byte c.args.a.now c.args.b.now c.loop-i.i (omega arith)
+    c.loop-i.invariant.2 ∙ order_byte c.args.a.now c.args.b.now c.loop-i.i (omega arith)
     (omega arith) in
     sym (by_byte ∙ by_less _ _ _ c.if-x-y-2.true)
 
@@ -32,9 +32,9 @@ returns-then-x-y c =
     let b = c.args.b.now in
     let i = c.loop-i.i in
     order a b ≡ by (get_or a i 0) (get_or b i 0) (order (drop (i + 1) a) (drop (i + 1) b)) =
-    c.loop-i.invariant.2 ∙ order-byte c.args.a.now c.args.b.now c.loop-i.i (omega arith)
+    c.loop-i.invariant.2 ∙ order_byte c.args.a.now c.args.b.now c.loop-i.i (omega arith)
     (omega arith) in
-    sym (by_byte ∙ by-more _ _ _ c.if-x-y-2.false c.if-x-y.true)
+    sym (by_byte ∙ by_more _ _ _ c.if-x-y-2.false c.if-x-y.true)
 
 pub loop-i-preserved : goal.loop-i-preserved
 loop-i-preserved c =
@@ -42,14 +42,14 @@ loop-i-preserved c =
     let b = c.args.b.now in
     let i = c.loop-i.i in
     order a b ≡ by (get_or a i 0) (get_or b i 0) (order (drop (i + 1) a) (drop (i + 1) b)) =
-    c.loop-i.invariant.2 ∙ order-byte c.args.a.now c.args.b.now c.loop-i.i (omega arith)
+    c.loop-i.invariant.2 ∙ order_byte c.args.a.now c.args.b.now c.loop-i.i (omega arith)
     (omega arith) in
-    (omega arith, omega arith, by_byte ∙ by-same _ _ _ c.if-x-y.false)
+    (omega arith, omega arith, by_byte ∙ by_same _ _ _ c.if-x-y.false)
 
 pub returns-then-i-b : goal.returns-then-i-b
 returns-then-i-b c =
     let a = c.args in
-    sym (c.loop-i.invariant.2 ∙ order-short a.a.now a.b.now c.loop-i.i (omega arith) c.if-i-b.true)
+    sym (c.loop-i.invariant.2 ∙ order_short a.a.now a.b.now c.loop-i.i (omega arith) c.if-i-b.true)
 
 pub returns : goal.returns
 returns c =

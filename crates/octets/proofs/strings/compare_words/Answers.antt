@@ -7,7 +7,7 @@ use mir.Syntax.{w32}
 use mir.ValLaws.{to_z-of_z}
 use borrow.Author.Rules.{rules}
 use Rattle.octets.specs.Strings.{order}
-use Rattle.octets.proofs.StringLaws.{by, by_less, by-more, by-same, order_word, order-tail}
+use Rattle.octets.proofs.StringLaws.{by, by_less, by_more, by_same, order_word, order-tail}
 use Rattle.octets.proofs.strings.compare_words.Goals as goal
 
 pub loop-i-init : goal.loop-i-init
@@ -35,7 +35,7 @@ returns-then-x-y c =
     c.loop-i.invariant.3 ∙ order_word a.a.now a.b.now 8 c.loop-i.i (omega arith) (omega arith)
     (λ j. omega (arith, c.shared_slice_known-1.given j)) (λ j. omega (arith, c.shared_slice_known-2-1.given j))
     ∙ sym (rw (c.u64_at-x.ensures, c.u64_at-y.ensures)) in
-    sym (by_word ∙ by-more _ _ _ c.if-x-y-2.false c.if-x-y.true)
+    sym (by_word ∙ by_more _ _ _ c.if-x-y-2.false c.if-x-y.true)
 
 pub loop-i-preserved : goal.loop-i-preserved
 loop-i-preserved c =
@@ -47,7 +47,7 @@ loop-i-preserved c =
     c.loop-i.invariant.3 ∙ order_word a.a.now a.b.now 8 c.loop-i.i (omega arith) (omega arith)
     (λ j. omega (arith, c.shared_slice_known-1.given j)) (λ j. omega (arith, c.shared_slice_known-2-1.given j))
     ∙ sym (rw (c.u64_at-x.ensures, c.u64_at-y.ensures)) in
-    (omega arith, omega arith, omega arith, by_word ∙ by-same _ _ _ c.if-x-y.false)
+    (omega arith, omega arith, omega arith, by_word ∙ by_same _ _ _ c.if-x-y.false)
 
 pub returns : goal.returns
 returns c =

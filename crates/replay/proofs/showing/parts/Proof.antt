@@ -1,12 +1,12 @@
 -- The places stand inside the container.
 use Rattle.std.proofs.Common.{arith, rules}
-use Rattle.format.proofs.KnownLaws.{known-room}
+use Rattle.format.proofs.KnownLaws.{known_room}
 use Rattle.replay.proofs.showing.parts.Statement.{statement}
 use Rattle.replay.proofs.showing.parts.Tie as tie
 
 sizes-requires : tie.Need-sizes-requires
 sizes-requires c κs =
-    let z = known-room c.before.before.requires in
+    let z = known_room c.before.before.requires in
     (omega (arith, z.1, z.2), z.0, omega (arith, z.3))
 
 data-of-requires : tie.Need-data-of-requires
@@ -20,7 +20,7 @@ slice-aggregate-leases c = search rules
 
 leases-requires : tie.Need-leases-requires
 leases-requires c κs =
-    let z = known-room c.before.before.before.before.before.before.requires in
+    let z = known_room c.before.before.before.before.before.before.requires in
     omega (arith, z.0, z.1)
 
 lesser-requires : tie.Need-lesser-requires
@@ -28,7 +28,7 @@ lesser-requires c κs = search rules
 
 extras-at-requires : tie.Need-extras-at-requires
 extras-at-requires c κs =
-    let z = known-room c.before.before.before.before.before.before.before.before.requires in
+    let z = known_room c.before.before.before.before.before.before.before.before.requires in
     omega (arith, z.1, z.2)
 
 slice-aggregate-leases-2 : tie.Need-slice-aggregate-leases-2
@@ -37,7 +37,7 @@ slice-aggregate-leases-2 c = search rules
 leases-requires-2 : tie.Need-leases-requires-2
 leases-requires-2 c κs =
     let s = c.before.before.before.before.before.before.before.before.before.before in
-    omega (arith, (known-room s.requires).1, c.before.before.lesser.ensures.0, c.before.extras-at.ensures)
+    omega (arith, (known_room s.requires).1, c.before.before.lesser.ensures.0, c.before.extras-at.ensures)
 
 slice-aggregate-write : tie.Need-slice-aggregate-write
 slice-aggregate-write c = search rules

@@ -3,7 +3,7 @@
 use Rattle.std.proofs.Common.{◌≡◌, ℕ, ◌+◌, ◌-◌, ◌*◌, ◌<◌, ◌≤◌, length, ap, arith}
 use Rattle.rules.specs.Testing.{length_size}
 use Rattle.requests.specs.declared.cursors.Entry.{Entry}
-use Rattle.requests.proofs.FormLaws.{times-next}
+use Rattle.requests.proofs.FormLaws.{times_next}
 use Rattle.replay.proofs.showing.pieces.Statement.{statement}
 use Rattle.replay.proofs.showing.pieces.Tie as tie
 
@@ -21,7 +21,7 @@ decreases-loop q t size r l n at₀ i₀ cursor₀ at i cursor = n - i
 entry_next : (stride n i : ℕ) → i < n → stride * (n - i) ≡ stride * (n - (i + 1)) + stride
 entry_next stride n i h =
     let e : n - (i + 1) ≡ n - i - 1 = omega arith in
-    rw e (times-next stride (n - i) 0 (omega arith))
+    rw e (times_next stride (n - i) 0 (omega arith))
 
 returns : tie.Need-returns invariant-loop decreases-loop
 returns c = tt

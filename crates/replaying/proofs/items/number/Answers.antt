@@ -3,7 +3,7 @@ use native.Mathlib.Omega.{arith}
 use lib.ListN.{length}
 use mathlib.Core.Path.{sym, ap, ◌∙◌}
 use Rattle.replaying.specs.Items.{numeral_at, number_of, negative_of}
-use Rattle.replaying.proofs.ItemLaws.{stands_inside, number-inside, negative-inside}
+use Rattle.replaying.proofs.ItemLaws.{stands_inside, number-inside, negative_inside}
 use Rattle.replaying.proofs.items.number.Goals as goal
 
 pub decimal_at-requires : goal.decimal_at-requires
@@ -14,7 +14,7 @@ unfolding numeral_at
 returns-then-stands c = (
   rw (sym c.stands.ensures ∙ c.if-stands.true) (c.negative_item.ensures
       ∙ ap negative_of c.decimal_at.ensures.0),
-  rw c.negative_item.ensures (negative-inside (length c.args.s.now)
+  rw c.negative_item.ensures (negative_inside (length c.args.s.now)
       c.decimal_at.result c.decimal_at.ensures.1),
 )
 

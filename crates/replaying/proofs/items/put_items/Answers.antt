@@ -6,8 +6,8 @@ use Prim.Native.Nat.{ℕ, suc, ◌+◌, ◌-◌}
 use lib.ListN.{length}
 use Rattle.octets.specs.Moves.{put}
 use Rattle.replaying.specs.Items.{line_bytes, line_right}
-use Rattle.replaying.proofs.ItemLaws.{line-none, right-none, answer-none, answer-same, turn-put, turn-count}
-use Rattle.replaying.proofs.ItemLaws.{all-put, all-count}
+use Rattle.replaying.proofs.ItemLaws.{line_none, right_none, answer-none, answer-same, turn_put, turn_count}
+use Rattle.replaying.proofs.ItemLaws.{all_put, all_count}
 use Rattle.replaying.proofs.items.put_items.Goals as goal
 
 pub loop-left-init : goal.loop-left-init
@@ -26,10 +26,10 @@ returns-in-Done c =
     let i = c.loop-left.invariant in (
       (
         i.5 ∙ y,
-        e.0.count ∙ all-count _ _ _ _ _ _ i.3 i.4 z,
+        e.0.count ∙ all_count _ _ _ _ _ _ i.3 i.4 z,
         omega arith,
         e.0.same
-            ∙ all-put _ _ _ _ _ _ i.3 i.4 z,
+            ∙ all_put _ _ _ _ _ _ i.3 i.4 z,
       ),
       sym (i.6 ∙ answer-same s c.loop-left.p c.loop-left.n _ _ _ _ q (sym i.2) ∙ e.1 (c.loop-left.left - 1)),
     )
@@ -56,9 +56,9 @@ loop-left-preserved c =
       omega arith,
       omega arith,
       i.3 ∙ ap (λ (x : ℕ). put c.loop-left.n (line_bytes x s c.loop-left.p) c.loop-left.d) q
-          ∙ turn-put _ _ _ _ _ _ _ _ w.0.1 (c.loop-left.left - 1) i.1,
+          ∙ turn_put _ _ _ _ _ _ _ _ w.0.1 (c.loop-left.left - 1) i.1,
       i.4 ∙ ap (λ (x : ℕ). c.loop-left.n + length (line_bytes x s c.loop-left.p)) q
-          ∙ turn-count _ _ _ _ _ _ _ _ w.0.1 (c.loop-left.left - 1),
+          ∙ turn_count _ _ _ _ _ _ _ _ w.0.1 (c.loop-left.left - 1),
       i.5 ∙ ap (λ (x : ℕ). line_right x s c.loop-left.p) q ∙ w.0.1.right (c.loop-left.left - 1),
       i.6 ∙ answer-same s c.loop-left.p c.loop-left.n _ _ _ _ q (sym i.2) ∙ w.1 (c.loop-left.left - 1)
           ∙ answer-same s _ _ _ _ _ _ refl i.2,
@@ -68,9 +68,9 @@ pub returns : goal.returns
 returns c =
     let q : c.loop-left.left ≡ 0 = omega arith in
     let s = c.args.s.now in
-    let z = ap (λ (x : ℕ). line_bytes x s c.loop-left.p) q ∙ line-none _ _ in
-    let y = ap (λ (x : ℕ). line_right x s c.loop-left.p) q ∙ right-none _ _ in
+    let z = ap (λ (x : ℕ). line_bytes x s c.loop-left.p) q ∙ line_none _ _ in
+    let y = ap (λ (x : ℕ). line_right x s c.loop-left.p) q ∙ right_none _ _ in
     let i = c.loop-left.invariant in (
-      (i.5 ∙ y, all-count _ _ _ _ _ _ i.3 i.4 z, omega arith, all-put _ _ _ _ _ _ i.3 i.4 z),
+      (i.5 ∙ y, all_count _ _ _ _ _ _ i.3 i.4 z, omega arith, all_put _ _ _ _ _ _ i.3 i.4 z),
       sym (i.6 ∙ answer-same s c.loop-left.p c.loop-left.n _ _ _ _ q refl ∙ answer-none _ _ _ _),
     )

@@ -4,7 +4,7 @@ use mathlib.Core.Path.{sym, ap, ◌∙◌}
 use lib.ListN.{length}
 use Rattle.replaying.specs.Items.{repeat_at, repeat_by, repeat_of}
 use Rattle.replaying.proofs.TextLaws.{pair_inside}
-use Rattle.replaying.proofs.ItemLaws.{stands_inside, repeat-inside}
+use Rattle.replaying.proofs.ItemLaws.{stands_inside, repeat_inside}
 use Rattle.replaying.proofs.items.repeat.Goals as goal
 
 pub decimal_at-requires : goal.decimal_at-requires
@@ -22,7 +22,7 @@ returns-then-stands c = (
       (c.repeat_item.ensures ∙ ap (repeat_of c.in-Byte.b)
       c.decimal_at.ensures.0),
   rw c.repeat_item.ensures
-      (repeat-inside (length c.args.s.now)
+      (repeat_inside (length c.args.s.now)
       c.in-Byte.b c.decimal_at.result
       c.decimal_at.ensures.1),
 )

@@ -4,7 +4,7 @@ use Prim.Native.Nat.{ℕ, ◌+◌, ◌*◌}
 use native.Mathlib.Omega.{arith}
 use lib.ListN.{drop}
 use Rattle.replaying.specs.Numerals.{value_of, value_after}
-use Rattle.replaying.proofs.TextLaws.{value-more, value-end, value_grows}
+use Rattle.replaying.proofs.TextLaws.{value_more, value_end, value_grows}
 use Rattle.replaying.proofs.numerals.value.Goals as goal
 
 pub loop-i-init : goal.loop-i-init
@@ -19,7 +19,7 @@ returns-then-most-acc c =
     let valued : let d = c.args.d.now in
     value_of d ≡ value_after (c.loop-i.acc * 10 + c.digit.result) (drop (c.loop-i.i + 1) d) =
     let d = c.args.d.now in
-    c.loop-i.invariant.2 ∙ value-more d c.loop-i.i c.loop-i.acc c.loop-i-test.true
+    c.loop-i.invariant.2 ∙ value_more d c.loop-i.i c.loop-i.acc c.loop-i-test.true
     ∙ ap (λ (x : ℕ). value_after (c.loop-i.acc * 10 + x) (drop (c.loop-i.i + 1) d)) (sym c.digit.ensures) in
     let v = valued in (
       λ h. absurd (omega arith),
@@ -37,11 +37,11 @@ loop-i-preserved c =
     let valued : let d = c.args.d.now in
     value_of d ≡ value_after (c.loop-i.acc * 10 + c.digit.result) (drop (c.loop-i.i + 1) d) =
     let d = c.args.d.now in
-    c.loop-i.invariant.2 ∙ value-more d c.loop-i.i c.loop-i.acc c.loop-i-test.true
+    c.loop-i.invariant.2 ∙ value_more d c.loop-i.i c.loop-i.acc c.loop-i-test.true
     ∙ ap (λ (x : ℕ). value_after (c.loop-i.acc * 10 + x) (drop (c.loop-i.i + 1) d)) (sym c.digit.ensures) in
     (omega arith, omega arith, valued)
 
 pub returns : goal.returns
 returns c =
-    let v = c.loop-i.invariant.2 ∙ value-end _ _ _ c.loop-i-test.false in
+    let v = c.loop-i.invariant.2 ∙ value_end _ _ _ c.loop-i-test.false in
     (λ h. sym v, λ h. absurd (omega arith))

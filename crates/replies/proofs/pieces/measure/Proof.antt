@@ -7,9 +7,9 @@ use Rattle.octets.specs.Facts.{Octets}
 use Rattle.format.specs.Layout.{limit}
 use Rattle.rules.specs.Requests.{entry_limit}
 use Rattle.rules.specs.Testing.{length_size}
-use Rattle.replies.proofs.PieceLaws.{Measuring, Reading, measuring-end, measuring-next, measuring_start}
-use Rattle.replies.proofs.PieceLaws.{measuring-bound, reading}
-use Rattle.requests.proofs.FormLaws.{times-next}
+use Rattle.replies.proofs.PieceLaws.{Measuring, Reading, measuring_end, measuring_next, measuring_start}
+use Rattle.replies.proofs.PieceLaws.{measuring_bound, reading}
+use Rattle.requests.proofs.FormLaws.{times_next}
 use Rattle.replies.proofs.pieces.measure.Statement.{statement}
 use Rattle.replies.proofs.pieces.measure.Tie as tie
 
@@ -42,7 +42,7 @@ bound c =
     let t = r.before.before.before in
     let l = t.before in
     let h = l.before.before.before.before.requires in
-    measuring-bound l.loop.invariant t.loop-test.true (read r) _ c.piece.ensures h.0 h.1
+    measuring_bound l.loop.invariant t.loop-test.true (read r) _ c.piece.ensures h.0 h.1
 
 loop-holds : tie.Need-loop-init invariant-loop decreases-loop
 loop-holds c = measuring_start _ _ _ c.before.before.before.requires.0
@@ -51,7 +51,7 @@ entry-requires : tie.Need-entry-requires invariant-loop decreases-loop
 entry-requires c κs =
     let l = c.before.loop in
     let s = c.before.before.before.before.before in
-    let n = times-next s.args.t.stride l.left l.cursor.at c.loop-test.true in
+    let n = times_next s.args.t.stride l.left l.cursor.at c.loop-test.true in
     (s.requires.0.wide, omega (arith, l.invariant.reaches))
 
 resolve-requires : tie.Need-resolve-requires invariant-loop decreases-loop
@@ -81,10 +81,10 @@ loop-again c =
     let b = p.before in
     let r = b.before in
     let t = r.before.before.before in
-    measuring-next t.before.loop.invariant t.loop-test.true (read r) _ p.piece.ensures _ b.both.ensures
+    measuring_next t.before.loop.invariant t.loop-test.true (read r) _ p.piece.ensures _ b.both.ensures
 
 returns : tie.Need-returns invariant-loop decreases-loop
-returns c = measuring-end c.before.loop.invariant c.loop-test.false
+returns c = measuring_end c.before.loop.invariant c.loop-test.false
 
 pub measure-spec : {M : Type 1} → statement M
 measure-spec =

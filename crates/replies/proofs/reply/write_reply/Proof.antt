@@ -3,9 +3,9 @@ use native.Mathlib.Omega.{arith}
 use Prim.Native.Nat.{◌+◌, ◌≤◌}
 use borrow.Author.Rules.{rules}
 use lib.ListN.{length}
-use Rattle.replies.proofs.PieceLaws.{Writing, Reading, part_short, writing-end, writing-next, writing-room}
+use Rattle.replies.proofs.PieceLaws.{Writing, Reading, part_short, writing_end, writing-next, writing_room}
 use Rattle.replies.proofs.PieceLaws.{writing_start, reading}
-use Rattle.requests.proofs.FormLaws.{times-next}
+use Rattle.requests.proofs.FormLaws.{times_next}
 use Rattle.replies.proofs.reply.write_reply.Statement.{statement}
 use Rattle.replies.proofs.reply.write_reply.Tie as tie
 
@@ -43,7 +43,7 @@ room : (c : tie.After-piece invariant-loop decreases-loop)
 room c =
     let r = c.before in
     let t = r.before.before.before in
-    omega (arith, writing-room t.before.loop.invariant t.loop-test.true (read r) _ c.piece.ensures)
+    omega (arith, writing_room t.before.loop.invariant t.loop-test.true (read r) _ c.piece.ensures)
 
 mul-behind : tie.Need-overflow-mul-behind invariant-loop decreases-loop
 mul-behind c = omega (arith, c.before.before.before.before.requires.0.few)
@@ -55,7 +55,7 @@ entry-requires : tie.Need-entry-requires invariant-loop decreases-loop
 entry-requires c κs =
     let l = c.before.loop in
     let s = c.before.before.before.before.before.before in
-    let n = times-next s.args.t.stride l.left l.cursor.at c.loop-test.true in
+    let n = times_next s.args.t.stride l.left l.cursor.at c.loop-test.true in
     (s.requires.0.wide, omega (arith, l.invariant.reaches))
 
 resolve-requires : tie.Need-resolve-requires invariant-loop decreases-loop
@@ -109,7 +109,7 @@ same_length : tie.Need-same-length invariant-loop decreases-loop
 same_length c = omega (arith, c.before.loop.invariant.same)
 
 returns : tie.Need-returns invariant-loop decreases-loop
-returns c = writing-end c.before.loop.invariant c.loop-test.false
+returns c = writing_end c.before.loop.invariant c.loop-test.false
 
 pub write-reply-spec : {M : Type 1} → statement M
 write-reply-spec =

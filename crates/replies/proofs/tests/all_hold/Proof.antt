@@ -9,9 +9,9 @@ use mir.Syntax.{w32}
 use mir.ValLaws.{to_z-of_z}
 use Rattle.rules.specs.Testing.{decides}
 use Rattle.requests.specs.Cursors.{body_of, body_at}
-use Rattle.replies.proofs.PieceLaws.{Holding, holding-end, holding-false, holding-next, holds_at, reading}
-use Rattle.replies.proofs.PieceLaws.{holding-specimen, read-holds}
-use Rattle.requests.proofs.FormLaws.{times-next}
+use Rattle.replies.proofs.PieceLaws.{Holding, holding_end, holding_false, holding_next, holds_at, reading}
+use Rattle.replies.proofs.PieceLaws.{holding_specimen, read-holds}
+use Rattle.requests.proofs.FormLaws.{times_next}
 use Rattle.rules.specs.Requests.{test_size}
 use Rattle.requests.specs.declared.cursors.TestEntry.{TestEntry}
 use Rattle.replies.proofs.tests.all_hold.Statement.{statement}
@@ -29,7 +29,7 @@ inside : (c : tie.After-test invariant-loop decreases-loop)
     → let l = c.before.before in
     let a = l.before.before.before.before.before.before.args in
     l.loop.specimens.at + c.test.result.specimen ≤ length a.q.now
-inside c = let t = c.before in rw c.test.ensures (holding-specimen t.before.loop.invariant t.loop-test.true)
+inside c = let t = c.before in rw c.test.ensures (holding_specimen t.before.loop.invariant t.loop-test.true)
 
 -- The code decides as the test says.
 decided : (c : tie.After-decide invariant-loop decreases-loop)
@@ -62,7 +62,7 @@ loop-holds c =
 test-requires : tie.Need-test-requires invariant-loop decreases-loop
 test-requires c κs =
     let l = c.before.loop in
-    omega (arith, l.invariant.reaches, times-next test_size l.left l.cursor.at c.loop-test.true)
+    omega (arith, l.invariant.reaches, times_next test_size l.left l.cursor.at c.loop-test.true)
 
 resolve-requires : tie.Need-resolve-requires invariant-loop decreases-loop
 resolve-requires c κs = search rules
@@ -90,7 +90,7 @@ returns c =
     let d = c.before in
     let t = d.before.before.before.before.before.before.before.before.before in
     let n = decided d ∙ not-true d.decide.result c.if1.true in
-    holding-false t.before.loop.invariant t.loop-test.true n
+    holding_false t.before.loop.invariant t.loop-test.true n
 
 sub-left : tie.Need-overflow-sub-left invariant-loop decreases-loop
 sub-left c = search rules
@@ -106,10 +106,10 @@ loop-again c =
     let t = x.before in
     let y = decided d ∙ not-false d.decide.result i.if1.false in
     rw d.before.before.before.body.ensures
-    (holding-next t.before.loop.invariant t.loop-test.true x.test.ensures y)
+    (holding_next t.before.loop.invariant t.loop-test.true x.test.ensures y)
 
 returns-2 : tie.Need-returns-2 invariant-loop decreases-loop
-returns-2 c = holding-end c.before.loop.invariant c.loop-test.false
+returns-2 c = holding_end c.before.loop.invariant c.loop-test.false
 
 pub all-hold-spec : {M : Type 1} → statement M
 all-hold-spec =

@@ -6,7 +6,7 @@ use Prim.Native.Nat.{◌+◌, ◌*◌, ◌≤◌}
 use lib.ListN.{length}
 use Rattle.rules.specs.Requests.{entry_limit, test_size, test_entry_ok}
 use Rattle.requests.proofs.FormLaws.{Testing, testing_start, testing_next, testing_end, test_entry_ok_lem}
-use Rattle.requests.proofs.FormLaws.{times-next, specimens_most, testing_bound}
+use Rattle.requests.proofs.FormLaws.{times_next, specimens_most, testing_bound}
 use Rattle.rules.specs.Requests.{entry_ok}
 use Rattle.requests.specs.declared.cursors.TestEntry.{TestEntry}
 use borrow.Author.Rules.{rules}
@@ -25,7 +25,7 @@ loop-holds c = (testing_start _ _ _, (c.before.requires.0, c.before.requires.1))
 
 test-requires : tie.Need-test-requires invariant-loop decreases-loop
 test-requires c κs = let l = c.before.loop in
-    omega (arith, l.invariant.0.reaches, times-next test_size l.left l.cursor.at c.loop-test.true)
+    omega (arith, l.invariant.0.reaches, times_next test_size l.left l.cursor.at c.loop-test.true)
 
 entry-ok-requires : tie.Need-entry-ok-requires invariant-loop decreases-loop
 entry-ok-requires c κs = search rules

@@ -4,7 +4,7 @@ use native.Mathlib.Omega.{arith}
 use Prim.Native.Nat.{◌+◌, ◌*◌, ◌≤◌}
 use lib.ListN.{length}
 use Rattle.rules.specs.Requests.{entry_limit, entry_size}
-use Rattle.requests.proofs.FormLaws.{Adding, adding_start, adding_next, adding_end, times-next, bodies_most}
+use Rattle.requests.proofs.FormLaws.{Adding, adding_start, adding_next, adding_end, times_next, bodies_most}
 use Rattle.requests.specs.declared.cursors.Entry.{Entry}
 use borrow.Author.Rules.{rules}
 use Rattle.requests.proofs.forms.pass_writes.Statement.{statement}
@@ -26,7 +26,7 @@ entry-requires c κs = let l = c.before.loop in (
   omega (
     arith,
     l.invariant.0.reaches,
-    times-next entry_size l.left l.cursor.at
+    times_next entry_size l.left l.cursor.at
         c.loop-test.true,
   ),
 )

@@ -12,7 +12,7 @@ use Rattle.requests.specs.declared.forms.TestsPassed.{TestsPassed}
 use Rattle.requests.specs.declared.forms.WritesPassed.{WritesPassed}
 use Rattle.requests.proofs.FormLaws.{HeaderIs, header_is, Found, no_table, table_places, specimens_most}
 use Rattle.requests.proofs.FormLaws.{bodies_most}
-use Rattle.requests.proofs.FormLaws.{tests-at, writes-at, specimens-at, ends_at, entries_at, taken}
+use Rattle.requests.proofs.FormLaws.{tests_at_lem, writes_at_lem, specimens_at_lem, ends_at, entries_at, taken}
 use borrow.Author.Rules.{rules}
 use Rattle.requests.proofs.forms.test_write_form.Statement.{statement}
 use Rattle.requests.proofs.forms.test_write_form.Tie as tie
@@ -64,8 +64,8 @@ small : (c : tie.After-pass-writes) → (c.before.pass-tests.result.length ≤ 6
 small c =
     let q = c.before.before.before.before.before.before.before.before.before.before.before.before.args.q.now in
     let x = header c.before.before.before.before.before.before.before.before.before in
-    let t = ap (λ (y : TestsPassed). y.length) (tests-at (found c)) in
-    let w = ap (λ (y : WritesPassed). y.length) (writes-at (found c)) in (
+    let t = ap (λ (y : TestsPassed). y.length) (tests_at_lem (found c)) in
+    let w = ap (λ (y : WritesPassed). y.length) (writes_at_lem (found c)) in (
       omega (arith, specimens_most q (octets c) (test_count q) tests_at),
       omega (arith, bodies_most q (octets c) (write_count q) (writes_at q)),
     )
@@ -136,7 +136,7 @@ add-if7 c =
     let q = w.before.before.before.before.before.before.before.before.before.before.before.before.args.q.now in
     let x = header w.before.before.before.before.before.before.before.before.before in
     let m = table_places q in
-    omega (arith, specimens-at (found w), small w)
+    omega (arith, specimens_at_lem (found w), small w)
 
 add-if7-2 : tie.Need-overflow-add-if7-2
 add-if7-2 c =
@@ -144,7 +144,7 @@ add-if7-2 c =
     let q = w.before.before.before.before.before.before.before.before.before.before.before.before.args.q.now in
     let x = header w.before.before.before.before.before.before.before.before.before in
     let m = table_places q in
-    omega (arith, specimens-at (found w), small w)
+    omega (arith, specimens_at_lem (found w), small w)
 
 returns-7 : tie.Need-returns-7
 returns-7 c =

@@ -2,18 +2,18 @@
 use mathlib.Core.Path.{sym}
 use native.Mathlib.Omega.{arith}
 use Rattle.share_contents.proofs.NodeLaws.{depth-within, sixty_two}
-use Rattle.share_contents.proofs.ContentLaws.{tree-none, tree-ragged, tree-few, tree-hashes}
+use Rattle.share_contents.proofs.ContentLaws.{tree_none, tree_ragged, tree_few, tree_hashes}
 use Rattle.share_contents.proofs.contents.full_tree_ok.Statement.{statement}
 use Rattle.share_contents.proofs.contents.full_tree_ok.Tie as tie
 
 returns : tie.Need-returns
-returns c = tree-none _ _ c.if1.true
+returns c = tree_none _ _ c.if1.true
 
 returns-2 : tie.Need-returns-2
-returns-2 c = sym (tree-ragged _ _ c.before.if1.false c.if2.true)
+returns-2 c = sym (tree_ragged _ _ c.before.if1.false c.if2.true)
 
 returns-3 : tie.Need-returns-3
-returns-3 c = sym (tree-few _ _ c.before.before.if1.false c.if3.true)
+returns-3 c = sym (tree_few _ _ c.before.before.if1.false c.if3.true)
 
 tree-over-requires : tie.Need-tree-over-requires
 tree-over-requires c κs = omega (arith, sixty_two)
@@ -33,7 +33,7 @@ sub-result c =
 returns-4 : tie.Need-returns-4
 returns-4 c =
     let o = c.before.before in
-    rw c.before.tree_over.ensures.1 (tree-hashes _ _ o.before.before.if1.false o.before.if2.false)
+    rw c.before.tree_over.ensures.1 (tree_hashes _ _ o.before.before.if1.false o.before.if2.false)
 
 pub full-tree-ok-spec : {M : Type 1} → statement M
 full-tree-ok-spec =

@@ -3,7 +3,7 @@ use mathlib.Core.Path.{ap, subst, ◌∙◌}
 use Rattle.format.specs.Judging.{Judges}
 use Rattle.format.proofs.JudgingLaws.{judged_formed, judged-malformed, judged-length}
 use Rattle.rules.specs.Outcomes.{answer_of, no_node}
-use Rattle.upkeep_rules.proofs.AuditLaws.{answer-length, answer-malformed, answer-narrow, answer-done}
+use Rattle.upkeep_rules.proofs.AuditLaws.{answer-length, answer-malformed, answer_narrow, answer-done}
 use borrow.Author.Rules.{rules}
 use Rattle.upkeep.proofs.auditing.audit_answer.Statement.{statement}
 use Rattle.upkeep.proofs.auditing.audit_answer.Tie as tie
@@ -40,7 +40,7 @@ returns c =
     let a = j.before.before.before.before.args in
     let k = judged_formed _ _ (subst (Judges _) j.frame.given.1 j.before.before.judge.ensures) in
     c.answer3.ensures
-    ∙ answer-narrow a.c.now a.room k.formed (rw (← l.count-leases.ensures) c.before.if1.true)
+    ∙ answer_narrow a.c.now a.room k.formed (rw (← l.count-leases.ensures) c.before.if1.true)
 
 answer-requires-4 : tie.Need-answer-requires-4
 answer-requires-4 c κs = search rules

@@ -6,7 +6,7 @@ use native.Mathlib.Omega.{arith}
 use lib.ListN.{drop}
 use Rattle.format.specs.Layout.{fixed_places, leases_of}
 use Rattle.upkeep_rules.specs.Auditing.{rows_of}
-use Rattle.upkeep.proofs.AuditLaws.{Reached, reached, reached-empty, reached-held}
+use Rattle.upkeep.proofs.AuditLaws.{Reached, reached, reached_empty, reached_held}
 use Rattle.upkeep.proofs.auditing.next_lease.Statement.{statement}
 use Rattle.upkeep.proofs.auditing.next_lease.Tie as tie
 
@@ -44,7 +44,7 @@ loop-less c = let h = here c.before.before.before in omega arith
 loop-again : tie.Need-loop-preserved invariant-loop decreases-loop
 loop-again c =
     let p = c.before.before in
-    reached-empty _ _ _ _ (here p.before) p.place_at.result p.place_at.ensures
+    reached_empty _ _ _ _ (here p.before) p.place_at.result p.place_at.ensures
     (ap not (sym c.before.is_held_lem.ensures) ∙ c.if1.true)
 
 place-at-requires-2 : tie.Need-place-at-requires-2 invariant-loop decreases-loop
@@ -62,7 +62,7 @@ returns c =
     let w = q.before.before in
     let p = w.before in
     rw (c.row_at.ensures, q.place-at2.ensures, ← p.place_at.ensures)
-    (reached-held _ _ _ _ (here p.before) p.place_at.result p.place_at.ensures
+    (reached_held _ _ _ _ (here p.before) p.place_at.result p.place_at.ensures
     (ap not (sym w.is_held_lem.ensures) ∙ q.before.if1.false))
 
 pub next-lease-spec : {M : Type 1} → statement M

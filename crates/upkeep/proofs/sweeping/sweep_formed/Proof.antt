@@ -5,7 +5,7 @@ use native.Mathlib.Omega.{arith}
 use borrow.Author.Rules.{rules}
 use Rattle.octets.specs.Facts.{Octets}
 use Rattle.leases.proofs.PlaceLaws.{known_bounds}
-use Rattle.upkeep.proofs.SweepLaws.{AllSwept, all-swept}
+use Rattle.upkeep.proofs.SweepLaws.{AllSwept, all_swept}
 use Rattle.upkeep.proofs.sweeping.sweep_formed.Statement.{statement}
 use Rattle.upkeep.proofs.sweeping.sweep_formed.Tie as tie
 
@@ -20,7 +20,7 @@ left c =
     let s = x.before.before.before in
     let a = s.args in
     let o : Octets a.c.now = λ j. omega (arith, x.before.before.slice-known.given j) in
-    all-swept a.c.now a.frame s.requires o a.time _ _ _ _ _ x.sweep-places.ensures
+    all_swept a.c.now a.frame s.requires o a.time _ _ _ _ _ x.sweep-places.ensures
     c.before.extras-at.ensures c.sweep-places2.ensures
 
 sweep-places-requires : tie.Need-sweep-places-requires
@@ -52,7 +52,7 @@ returns : tie.Need-returns
 returns c =
     let d = c.before.before in
     let b = left d.before.before.before.before in
-    (b.counts, d.drop-tail.ensures ∙ b.leaves)
+    (b.counts, d.drop_tail_lem.ensures ∙ b.leaves)
 
 pub sweep-formed-spec : {M : Type 1} → statement M
 sweep-formed-spec =

@@ -3,7 +3,7 @@ use mathlib.Core.Path.{sym, ◌∙◌}
 use native.Mathlib.Omega.{arith}
 use borrow.Author.Rules.{rules}
 use borrow.Author.Tests.{not-true, not-false}
-use Rattle.upkeep.proofs.SweepLaws.{emptied, lasts, stays-empty}
+use Rattle.upkeep.proofs.SweepLaws.{emptied, lasts, stays_empty}
 use Rattle.upkeep.proofs.sweeping.sweep_place.Statement.{statement}
 use Rattle.upkeep.proofs.sweeping.sweep_place.Tie as tie
 
@@ -18,7 +18,7 @@ returns c =
     let h = c.before in
     let s = h.before.before.before in
     let a = s.args in
-    stays-empty a.time a.p a.c.now s.requires (sym h.is_held_lem.ensures ∙ not-true _ c.if1.true)
+    stays_empty a.time a.p a.c.now s.requires (sym h.is_held_lem.ensures ∙ not-true _ c.if1.true)
 
 add-u32-at : tie.Need-overflow-add-u32-at
 add-u32-at c = search rules

@@ -3,7 +3,7 @@ use Prim.Native.Nat.{◌+◌, ◌-◌}
 use native.Mathlib.Omega.{arith}
 use borrow.Author.Rules.{rules}
 use Rattle.format.specs.Layout.{record_size}
-use Rattle.upkeep.proofs.SweepLaws.{Sweeping, sweeping-none, sweeping-more, sweeping-all}
+use Rattle.upkeep.proofs.SweepLaws.{Sweeping, sweeping-none, sweeping_more, sweeping_all}
 use Rattle.upkeep.proofs.sweeping.sweep_places.Statement.{statement}
 use Rattle.upkeep.proofs.sweeping.sweep_places.Tie as tie
 
@@ -22,7 +22,7 @@ turn c =
     let w = c.before.before in
     let l = w.before.before.before in
     let a = l.before.before.args in
-    sweeping-more a.time a.from a.n a.c.now l.loop.left l.loop.at l.loop.count _ l.loop.c _
+    sweeping_more a.time a.from a.n a.c.now l.loop.left l.loop.at l.loop.count _ l.loop.c _
     l.loop.invariant (omega arith) w.sweep-place.ensures
 
 loop-holds : tie.Need-loop-init invariant-loop decreases-loop
@@ -56,7 +56,7 @@ returns : tie.Need-returns invariant-loop decreases-loop
 returns c =
     let l = c.before in
     let a = l.before.before.args in
-    sweeping-all a.time a.from a.n a.c.now l.loop.left l.loop.at l.loop.count l.loop.c
+    sweeping_all a.time a.from a.n a.c.now l.loop.left l.loop.at l.loop.count l.loop.c
     l.loop.invariant (omega arith)
 
 pub sweep-places-spec : {M : Type 1} → statement M

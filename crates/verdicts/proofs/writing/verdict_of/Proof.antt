@@ -5,9 +5,9 @@ use native.Mathlib.Omega.{arith}
 use Rattle.octets.specs.Rows.{first_row}
 use Rattle.format.specs.Layout.{data_at}
 use Rattle.format.proofs.WellFormed.{moved-below}
-use Rattle.format.proofs.KnownLaws.{lent, known-room, data-lent, lent-small}
-use Rattle.verdicts.proofs.VerdictLaws.{Found, final-bound, admits, fits, admit-verdict, find-verdict}
-use Rattle.verdicts.proofs.VerdictLaws.{fit-verdict}
+use Rattle.format.proofs.KnownLaws.{lent, known_room, data_lent_lem, lent_small}
+use Rattle.verdicts.proofs.VerdictLaws.{Found, final_bound, admits, fits, admit_verdict, find_verdict}
+use Rattle.verdicts.proofs.VerdictLaws.{fit_verdict}
 use borrow.Author.Rules.{rules}
 use Rattle.verdicts.proofs.writing.verdict_of.Statement.{statement}
 use Rattle.verdicts.proofs.writing.verdict_of.Tie as tie
@@ -18,7 +18,7 @@ found : (c : tie.After-cut-size) → let a = c.before.before.before.before.befor
 found c = record {
   known = c.before.before.before.before.before.before.before.requires.0;
   parted = c.before.before.before.before.before.before.before.requires.1;
-  bytes = data-lent c.before.before.before.before.before.before.before.requires.0
+  bytes = data_lent_lem c.before.before.before.before.before.before.before.requires.0
       c.before.before.before.before.data-end.ensures;
   measured = c.before.before.measure.ensures;
   reached = c.before.reach.ensures;
@@ -32,7 +32,7 @@ admitted : (c : tie.After-admit) → c.admit.result
 admitted c = rw c.before.both.ensures at c.admit.ensures
 
 data-end-requires : tie.Need-data-end-requires
-data-end-requires c κs = omega (arith, known-room c.before.before.requires.0)
+data-end-requires c κs = omega (arith, known_room c.before.before.requires.0)
 
 sub-d : tie.Need-overflow-sub-d
 sub-d c = search rules
@@ -41,15 +41,15 @@ part-d-start : tie.Need-slice-bounds-d-start
 part-d-start c = search rules
 
 part-d-end : tie.Need-slice-bounds-d-end
-part-d-end c = omega (arith, c.data-end.ensures, known-room c.before.before.before.requires.0)
+part-d-end c = omega (arith, c.data-end.ensures, known_room c.before.before.before.requires.0)
 
 measure-requires : tie.Need-measure-requires
 measure-requires c κs = let s = c.before.before.before.before in
-    (s.requires.1.tests, lent-small s.requires.0 c.before.data-end.ensures)
+    (s.requires.1.tests, lent_small s.requires.0 c.before.data-end.ensures)
 
 reach-requires : tie.Need-reach-requires
 reach-requires c κs = let s = c.before.before.before.before.before in
-    (s.requires.1, omega (arith, known-room s.requires.0))
+    (s.requires.1, omega (arith, known_room s.requires.0))
 
 cut-size-requires : tie.Need-cut-size-requires
 cut-size-requires c κs = search rules
@@ -59,10 +59,10 @@ both-requires c κs = search rules
 
 admit-requires : tie.Need-admit-requires
 admit-requires c κs = let s = c.before.before.before.before.before.before.before.before in
-    (omega (arith, known-room s.requires.0), s.requires.1.enabler)
+    (omega (arith, known_room s.requires.0), s.requires.1.enabler)
 
 returns : tie.Need-returns
-returns c = admit-verdict (found c.before.before.before)
+returns c = admit_verdict (found c.before.before.before)
     c.before.before.before.before.before.before.before.before.before.before.args.space _
     (admitted c.before) c.if1.true
 
@@ -70,22 +70,22 @@ find-requires : tie.Need-find-requires
 find-requires c κs = search rules
 
 returns-2 : tie.Need-returns-2
-returns-2 c = find-verdict (found c.before.before.before.before.before)
+returns-2 c = find_verdict (found c.before.before.before.before.before)
     c.before.before.before.before.before.before.before.before.before.before.before.before.args.space _
     (admitted c.before.before.before) c.before.before.if1.false _ c.before.find.ensures c.if2.true
 
 resized-requires : tie.Need-resized-requires
 resized-requires c κs =
     let s = c.before.before.before.before.before.before.before.before.before.before.before.before in
-    let b = final-bound (found c.before.before.before.before.before) in
-    let k = known-room s.requires.0 in
+    let b = final_bound (found c.before.before.before.before.before) in
+    let k = known_room s.requires.0 in
     omega (arith, s.requires.1.short)
 
 used-requires : tie.Need-used-requires
 used-requires c κs =
     let s = c.before.before.before.before.before.before.before.before.before.before.before.before.before in
-    let b = final-bound (found c.before.before.before.before.before.before) in
-    let k = known-room s.requires.0 in
+    let b = final_bound (found c.before.before.before.before.before.before) in
+    let k = known_room s.requires.0 in
     let a = s.args in
     let n = c.before.before.before.before.before.before.cut-size.result in
     rw c.resized.ensures (
@@ -103,7 +103,7 @@ returns-3 c =
     ≡ first_row
     (fits F c.before.before.before.before.before.before.before.before.before.before.before.before.before.before.before.args.space) =
     rw (c.before.used.ensures, c.before.before.resized.ensures) at c.fit.ensures in
-    fit-verdict F
+    fit_verdict F
     c.before.before.before.before.before.before.before.before.before.before.before.before.before.before.before.args.space _ (admitted c.before.before.before.before.before.before)
     c.before.before.before.before.before.if1.false _ _ c.before.before.before.before.find.ensures
     c.before.before.before.if2.false g

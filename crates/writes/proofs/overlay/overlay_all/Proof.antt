@@ -10,8 +10,8 @@ use Rattle.rules.specs.Requests.{writes_from}
 use Rattle.rules.specs.Writing.{write_at}
 use Rattle.requests.proofs.CursorLaws.{entry_resolved}
 use Rattle.requests.specs.Cursors.{body_of}
-use Rattle.writes.proofs.TableLaws.{Taken, rest_start, rest_fits, entry-bounds, entry-fits, Overlaying}
-use Rattle.writes.proofs.TableLaws.{overlaying-next, overlaying-end}
+use Rattle.writes.proofs.TableLaws.{Taken, rest_start, rest_fits, entry_bounds, entry_fits, Overlaying}
+use Rattle.writes.proofs.TableLaws.{overlaying_next, overlaying_end}
 use Rattle.requests.specs.declared.cursors.Entry.{Entry}
 use Rattle.requests.specs.declared.cursors.Body.{Body}
 use Rattle.writes.proofs.overlay.overlay_all.Statement.{statement}
@@ -58,11 +58,11 @@ resolve-requires : tie.Need-resolve-requires invariant-loop decreases-loop
 resolve-requires c κs = search rules
 
 body-requires : tie.Need-body-requires invariant-loop decreases-loop
-body-requires c κs = entry-fits (taken c)
+body-requires c κs = entry_fits (taken c)
 
 bytes-requires : tie.Need-bytes-requires invariant-loop decreases-loop
 bytes-requires c κs =
-    rw c.before.body.ensures (omega arith, entry-fits (taken c.before.before))
+    rw c.before.body.ensures (omega arith, entry_fits (taken c.before.before))
 
 overlay-one-requires : tie.Need-overlay-one-requires invariant-loop decreases-loop
 overlay-one-requires c κs = search rules
@@ -72,7 +72,7 @@ grown-requires c κs =
     let r = c.before.before.before.before.before.before in
     let l = r.before.before.before.before in
     let s = l.before.before.before.before.before.before in
-    entry-bounds (taken r) (octets r) s.requires.0.short _ s.requires.1 l.loop.invariant.small
+    entry_bounds (taken r) (octets r) s.requires.0.short _ s.requires.1 l.loop.invariant.small
 
 sub-left : tie.Need-overflow-sub-left invariant-loop decreases-loop
 sub-left c = search rules
@@ -92,13 +92,13 @@ loop-again c =
     let b = o.before.bytes.ensures ∙ ap (λ (x : Body). body_of x q) y.body.ensures in
     let w = o.overlay-one.ensures ∙ ap (λ (x : List ℕ). write_at l.d p (take (length l.d - p) x)) b in
     let n = ap (λ (x : Body). x.next.at) y.body.ensures in
-    overlaying-next l.invariant (taken r) _ _ _ (omega arith) w n g.grown.ensures
+    overlaying_next l.invariant (taken r) _ _ _ (omega arith) w n g.grown.ensures
 
 same_length : tie.Need-same-length invariant-loop decreases-loop
 same_length c = omega (arith, c.before.loop.invariant.same)
 
 returns : tie.Need-returns invariant-loop decreases-loop
-returns c = overlaying-end c.before.loop.invariant c.loop-test.false
+returns c = overlaying_end c.before.loop.invariant c.loop-test.false
 
 pub overlay-all-spec : {M : Type 1} → statement M
 overlay-all-spec =

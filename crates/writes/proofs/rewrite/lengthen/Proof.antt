@@ -6,14 +6,14 @@ use native.Mathlib.Omega.{arith}
 use Rattle.octets.specs.Facts.{Octets}
 use Rattle.format.specs.View.{tail_size}
 use Rattle.format.specs.Parts.{parts_of}
-use Rattle.format.proofs.ViewLaws.{formed-laid}
+use Rattle.format.proofs.ViewLaws.{formed_laid}
 use Rattle.format.proofs.ByteLaws.{at_loose}
 use Rattle.rules.specs.Outcomes.{after}
 use Rattle.requests.specs.Forms.{cut_in}
 use Rattle.format.specs.Layout.{data_at, data_of, slack_of, moved_count}
 use Rattle.format.proofs.WellFormed.{moved_up}
-use Rattle.format.proofs.KnownLaws.{known-room}
-use Rattle.writes.proofs.Whole.{rewritten-whole, both_fit, final_room}
+use Rattle.format.proofs.KnownLaws.{known_room}
+use Rattle.writes.proofs.Whole.{rewritten_whole, both_fit, final_room}
 use borrow.Author.Rules.{rules}
 use Rattle.writes.proofs.rewrite.lengthen.Statement.{statement}
 use Rattle.writes.proofs.rewrite.lengthen.Tie as tie
@@ -21,7 +21,7 @@ use Rattle.writes.proofs.rewrite.lengthen.Tie as tie
 bare-requires : tie.Need-bare-requires
 bare-requires c κs =
     let s = c.before.before in
-    let k = known-room s.requires.0 in
+    let k = known_room s.requires.0 in
     (s.requires.1, omega arith, omega (arith, s.requires.3))
 
 lift-requires : tie.Need-lift-requires
@@ -33,7 +33,7 @@ lift-requires c κs =
 write-data-requires : tie.Need-write-data-requires
 write-data-requires c κs =
     let s = c.before.before.before.before.before.before.before.before in
-    let k = known-room s.requires.0 in
+    let k = known_room s.requires.0 in
     (omega (arith, final_room s.requires.0 s.requires.2), s.requires.1, omega arith)
 
 resized-requires : tie.Need-resized-requires
@@ -63,14 +63,14 @@ returns c =
     let e = data_at + a.f in
     let g : moved_count a.frame.offset a.f ≡ e = moved_up a.frame.offset a.f s.requires.3 in
     let o : Octets a.c.now = λ i. omega (arith, b.before.before.slice-known.given i) in
-    let x = r.lift.ensures.turn (formed-laid a.c.now a.frame s.requires.0 o) in
+    let x = r.lift.ensures.turn (formed_laid a.c.now a.frame s.requires.0 o) in
     let n : length x.bytes ≡ a.f = omega (arith, x.laid.upto) in
     let m : length x.bytes - a.f ≡ 0 = omega arith in
     let y : drop a.f x.bytes ≡ replicate (length x.bytes - a.f) 0 =
     drop_of_length-le x.bytes {i = a.f} (omega arith) ∙ rw m in
     let P = rw z.resized.ensures at p.put-fields.ensures in
     let d = a.c.now in
-    rewritten-whole d _ a.frame a.f s.requires.0 o _ (cut_in a.t.cut) x.bytes (x.laid.upto ∙ sym g)
+    rewritten_whole d _ a.frame a.f s.requires.0 o _ (cut_in a.t.cut) x.bytes (x.laid.upto ∙ sym g)
     (λ i l h. x.first i (omega (arith, b.bare.ensures)) (omega arith) ∙ at_loose (data_of d) (slack_of d) i) y
     (rw g (rw g at ((P e k).turn ((w.write-data.ensures e k (omega arith)).turn x.laid)))) s.requires.2.size
 

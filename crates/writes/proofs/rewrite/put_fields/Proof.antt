@@ -1,6 +1,6 @@
 -- Both fields stand in the head.
 use Rattle.writes.specs.Rewrite.{with_fields}
-use Rattle.writes.proofs.RewriteLaws.{offset-laid}
+use Rattle.writes.proofs.RewriteLaws.{offset_laid}
 use borrow.Author.Rules.{rules}
 use Rattle.writes.proofs.rewrite.put_fields.Statement.{statement}
 use Rattle.writes.proofs.rewrite.put_fields.Tie as tie
@@ -22,7 +22,7 @@ returns c o k =
     record {
       turn = λ L.
           rw c.before.before.put-u64.ensures
-          (offset-laid ((p.put-size.ensures o k).turn L) a.frame.offset);
+          (offset_laid ((p.put-size.ensures o k).turn L) a.frame.offset);
     }
 
 pub put-fields-spec : {M : Type 1} → statement M

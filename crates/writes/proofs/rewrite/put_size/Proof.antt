@@ -1,5 +1,5 @@
 -- The size field stands in the head.
-use Rattle.writes.proofs.RewriteLaws.{size-laid}
+use Rattle.writes.proofs.RewriteLaws.{size_laid}
 use borrow.Author.Rules.{rules}
 use Rattle.writes.proofs.rewrite.put_size.Statement.{statement}
 use Rattle.writes.proofs.rewrite.put_size.Tie as tie
@@ -13,7 +13,7 @@ same_length c = search rules
 returns : tie.Need-returns
 returns c o k = record {
   turn = λ L.
-      rw c.before.before.put-u64.ensures (size-laid L c.before.before.before.before.before.args.size);
+      rw c.before.before.put-u64.ensures (size_laid L c.before.before.before.before.before.args.size);
 }
 
 pub put-size-spec : {M : Type 1} → statement M

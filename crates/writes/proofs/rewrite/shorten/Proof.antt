@@ -3,11 +3,11 @@ use native.Mathlib.Omega.{arith}
 use Rattle.octets.specs.Facts.{Octets}
 use Rattle.format.specs.View.{tail_size}
 use Rattle.format.specs.Parts.{parts_of}
-use Rattle.format.proofs.ViewLaws.{formed-laid}
+use Rattle.format.proofs.ViewLaws.{formed_laid}
 use Rattle.rules.specs.Outcomes.{after}
 use Rattle.requests.specs.Forms.{cut_in}
-use Rattle.format.proofs.KnownLaws.{known-room}
-use Rattle.writes.proofs.Whole.{freed-whole, final_room}
+use Rattle.format.proofs.KnownLaws.{known_room}
+use Rattle.writes.proofs.Whole.{freed_whole, final_room}
 use borrow.Author.Rules.{rules}
 use Rattle.writes.proofs.rewrite.shorten.Statement.{statement}
 use Rattle.writes.proofs.rewrite.shorten.Tie as tie
@@ -20,13 +20,13 @@ put-size-requires c κs =
 free-requires : tie.Need-free-requires
 free-requires c κs =
     let s = c.before.before.before.before.before.before.before in
-    let r = known-room s.requires.0 in
+    let r = known_room s.requires.0 in
     (omega (arith, s.requires.3), omega (arith, r.0, r.1), omega (arith, r.2))
 
 write-data-requires : tie.Need-write-data-requires
 write-data-requires c κs =
     let s = c.before.before.before.before.before.before.before.before.before.before.before in
-    let k = known-room s.requires.0 in
+    let k = known_room s.requires.0 in
     (omega (arith, final_room s.requires.0 s.requires.2), s.requires.1, omega arith)
 
 same_length : tie.Need-same-length
@@ -42,11 +42,11 @@ returns c =
     let a = s.args in
     let k = tail_size a.frame.extras in
     let b = a.frame.offset in
-    let m = known-room s.requires.0 in
+    let m = known_room s.requires.0 in
     let o : Octets a.c.now = λ i. omega (arith, p.before.before.before.slice-known.given i) in
-    let L = (p.put-size.ensures b k).turn (formed-laid a.c.now a.frame s.requires.0 o) in
+    let L = (p.put-size.ensures b k).turn (formed_laid a.c.now a.frame s.requires.0 o) in
     let F = (r.free.ensures b k m.0).turn L in
-    freed-whole a.c.now _ a.frame a.f s.requires.0 o _ (cut_in a.t.cut) s.requires.3
+    freed_whole a.c.now _ a.frame a.f s.requires.0 o _ (cut_in a.t.cut) s.requires.3
     ((w.write-data.ensures b k (omega (arith, m.0, s.requires.3))).turn F) s.requires.2.size
 
 pub shorten-spec : {M : Type 1} → statement M

@@ -1,7 +1,7 @@
 -- What is lent is the data at its final size.
 use Rattle.rules.specs.Writing.{placed}
 use Rattle.requests.specs.Forms.{writes_in}
-use Rattle.writes.proofs.RewriteLaws.{data-laid}
+use Rattle.writes.proofs.RewriteLaws.{data_laid}
 use borrow.Author.Rules.{rules}
 use Rattle.writes.proofs.rewrite.write_data.Statement.{statement}
 use Rattle.writes.proofs.rewrite.write_data.Tie as tie
@@ -28,7 +28,7 @@ returns : tie.Need-returns
 returns c o k w =
     let a = c.before.before.before.before.before.before.args in
     let ws = placed (writes_in a.t a.q.now) a.size in
-    record { turn = λ L. data-laid _ o k a.c.now _ _ _ _ L a.f ws w c.before.before.overlay-all.ensures }
+    record { turn = λ L. data_laid _ o k a.c.now _ _ _ _ L a.f ws w c.before.before.overlay-all.ensures }
 
 pub write-data-spec : {M : Type 1} → statement M
 write-data-spec =

@@ -7,7 +7,7 @@ use borrow.Author.Rules.{rules}
 use Rattle.octets.specs.Facts.{Octets}
 use Rattle.rules.specs.Requests.{writes_from}
 use Rattle.requests.proofs.CursorLaws.{entry_resolved}
-use Rattle.writes.proofs.TableLaws.{Rest, rest_start, rest_fits, Taken, entry-bounds, Walking, walking-next}
+use Rattle.writes.proofs.TableLaws.{Rest, rest_start, rest_fits, Taken, entry_bounds, Walking, walking_next}
 use Rattle.writes.proofs.TableLaws.{walking-end}
 use Rattle.requests.specs.declared.cursors.Entry.{Entry}
 use Rattle.writes.proofs.sizes.walk.Statement.{statement}
@@ -65,7 +65,7 @@ grown-requires c κs =
     let l = r.before.before.before.before in
     let s = l.before.before.before.before in
     let R = l.loop.invariant _ (rest_start _ _ s.requires.0) in
-    entry-bounds (taken r _ R.rest) (octets r) s.requires.0.short _ s.requires.1 R.small
+    entry_bounds (taken r _ R.rest) (octets r) s.requires.0.short _ s.requires.1 R.small
 
 sub-left : tie.Need-overflow-sub-left invariant-loop decreases-loop
 sub-left c = search rules
@@ -79,7 +79,7 @@ loop-again c b r =
     let m = g.before in
     let y = m.before in
     let R = y.before.before.before.before.before.loop.invariant b r in
-    walking-next R (taken y.before _ R.rest) _ _ _ y.both.ensures g.grown.ensures m.gap-end.ensures
+    walking_next R (taken y.before _ R.rest) _ _ _ y.both.ensures g.grown.ensures m.gap-end.ensures
 
 returns : tie.Need-returns invariant-loop decreases-loop
 returns c =

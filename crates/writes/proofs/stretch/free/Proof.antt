@@ -4,7 +4,7 @@ use Prim.Native.Nat.{◌+◌, ◌≤◌}
 use native.Mathlib.Omega.{arith}
 use Rattle.format.specs.Layout.{data_at}
 use Rattle.format.specs.declared.layout.Frame.{Frame}
-use Rattle.writes.proofs.RewriteLaws.{freed-laid}
+use Rattle.writes.proofs.RewriteLaws.{freed_laid}
 use borrow.Author.Rules.{rules}
 use Rattle.writes.proofs.stretch.free.Statement.{statement}
 use Rattle.writes.proofs.stretch.free.Tie as tie
@@ -52,7 +52,7 @@ returns c o k w =
     let a = s.args in
     record {
       turn = λ L.
-          freed-laid _ o k a.c.now _ _ _ _ L a.f a.frame.size d.data-end.result e.data-end2.result
+          freed_laid _ o k a.c.now _ _ _ _ L a.f a.frame.size d.data-end.result e.data-end2.result
           (starts d).0 e.data-end2.ensures s.requires.0 (omega (arith, e.data-end2.ensures))
           c.before.before.clear.ensures;
     }

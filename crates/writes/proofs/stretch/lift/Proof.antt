@@ -8,9 +8,9 @@ use borrow.Rule.Slice.PartMut.{mid_of}
 use Rattle.format.specs.Layout.{data_at, moved_count, limit, extra_limit}
 use Rattle.format.specs.View.{tail_size}
 use Rattle.format.proofs.WellFormed.{used_is, moved_up}
-use Rattle.format.proofs.ViewLaws.{laid-length}
+use Rattle.format.proofs.ViewLaws.{laid_length}
 use Rattle.writes.specs.Stretch.{data_end_of, used_end_of}
-use Rattle.writes.proofs.StretchLaws.{raised-laid}
+use Rattle.writes.proofs.StretchLaws.{raised_laid}
 use borrow.Author.Rules.{rules}
 use Rattle.writes.proofs.stretch.lift.Statement.{statement}
 use Rattle.writes.proofs.stretch.lift.Tie as tie
@@ -124,10 +124,10 @@ returns c =
     let y = rw t.tail-size.ensures at w.raise.ensures in
     record {
       turn = λ L.
-          raised-laid L (data_at + a.f) p u.used.result (a.frame.offset - p) (a.f - a.frame.size) a.z
+          raised_laid L (data_at + a.f) p u.used.result (a.frame.offset - p) (a.f - a.frame.size) a.z
           (data_end_of a.frame + a.z) _ (omega (arith, l.from)) (omega (arith, l.from, l.fits))
           (omega (arith, l.from)) (omega (arith, l.from, l.fits)) l.to (omega (arith, l.from, l.fits))
-          (omega (arith, l.to, l.fits, laid-length L)) (omega arith) (slack-lent u) y;
+          (omega (arith, l.to, l.fits, laid_length L)) (omega arith) (slack-lent u) y;
     }
 
 pub lift-spec : {M : Type 1} → statement M
