@@ -7,14 +7,14 @@ use Prim.Native.Nat.{ℕ, ◌≤◌}
 use native.Mathlib.Omega.{arith}
 use lib.Dec.{eqb, leb}
 use borrow.Author.Tests.{eqb-true, leb-true}
-use Rattle.format.specs.Container.{length_allowed, well_formed}
+use Rattle.format.specs.Container.{length_allowed, well_formed, container_rows}
 use Rattle.format.specs.Parts.{parts_of}
 use Rattle.octets.specs.Lists.{any_of, every}
 use Rattle.octets.proofs.ListLaws.{both}
 use Rattle.octets.specs.Facts.{Each, Among}
 use Rattle.rules.specs.Requests.{Request, test_write_of, request_of, kind_of}
 use Rattle.octets.specs.Rows.{Row, first_row}
-use Rattle.rules.specs.Outcomes.{container_rows, rows, room_rows, request_rows, outcome, create_outcome, admit_rows, find_rows}
+use Rattle.rules.specs.Outcomes.{rows, room_rows, request_rows, outcome, create_outcome, admit_rows, find_rows}
 use Rattle.rules.specs.Claims.{numbers_for}
 use Rattle.rules.proofs.RequestLaws.{Kinds, broken, tests, adds, renews, cancels, reads, kinds}
 
@@ -48,19 +48,32 @@ pub done_unbroken : (c q : List ℕ) (n : ℕ) → outcome c q n ≡ 0 → reque
 done_unbroken c q n e f =
     broken_is (λ k. k ≡ 0 → ⊥) c q n f (λ z. omega arith) (λ z. omega arith) (λ z. omega arith) e
 
+-- the rows that a request of a kind meets
+of_kind : (c q : List ℕ) (n k : ℕ) (w : Option Request) → kind_of q ≡ k → request_of q ≡ w
+    → Among (first_row (container_rows c ++ request_rows (parts_of c) w n)) (numbers_for k)
+    → Among (outcome c q n) (numbers_for (kind_of q))
+unfolding outcome
+of_kind c q n k w e f h =
+    subst (λ (m : ℕ). Among (outcome c q n) (numbers_for m)) (sym e)
+    (subst
+    (λ (x : Option Request). Among (first_row (container_rows c ++ request_rows (parts_of c) x n)) (numbers_for k))
+    (sym f)
+    h)
+
 kind_among : (c q : List ℕ) (n : ℕ) → Kinds q → Among (outcome c q n) (numbers_for (kind_of q))
 unfolding outcome request_rows rows admit_rows find_rows room_rows numbers_for any_of test_write_of
 kind_among c q n (broken e) = broken_is (λ k. Among k (numbers_for (kind_of q))) c q n e refl refl refl
 kind_among c q n (tests k l o e) =
-    rw k (subst
-    (λ (w : Option Request). Among (first_row (container_rows c ++ request_rows (parts_of c) w n)) (numbers_for 1))
-    (sym e)
-    (first_row_among (numbers_for 1) _ refl (refl, (refl, (refl, (refl, (refl, (refl, (refl, tt)))))))))
-kind_among c q n (adds k o e) = rw (e, k) (first_row_among (numbers_for 2) _ refl (refl, (refl, (refl, (refl, tt)))))
-kind_among c q n (renews k o e) = rw (e, k) (first_row_among (numbers_for 3) _ refl (refl, (refl, (refl, tt))))
-kind_among c q n (cancels k o e) = rw (e, k) (first_row_among (numbers_for 4) _ refl (refl, (refl, (refl, tt))))
+    of_kind c q n 1 _ k e
+    (first_row_among (numbers_for 1) _ refl (refl, (refl, (refl, (refl, (refl, (refl, (refl, tt))))))))
+kind_among c q n (adds k o e) =
+    of_kind c q n 2 _ k e (first_row_among (numbers_for 2) _ refl (refl, (refl, (refl, (refl, tt)))))
+kind_among c q n (renews k o e) =
+    of_kind c q n 3 _ k e (first_row_among (numbers_for 3) _ refl (refl, (refl, (refl, tt))))
+kind_among c q n (cancels k o e) =
+    of_kind c q n 4 _ k e (first_row_among (numbers_for 4) _ refl (refl, (refl, (refl, tt))))
 kind_among c q n (reads k o e) =
-    rw (e, k) (first_row_among (numbers_for 5) _ refl (refl, (refl, (refl, (refl, tt)))))
+    of_kind c q n 5 _ k e (first_row_among (numbers_for 5) _ refl (refl, (refl, (refl, (refl, tt)))))
 
 pub outcome_among : (c q : List ℕ) (n : ℕ) → Among (outcome c q n) (numbers_for (kind_of q))
 outcome_among c q n = kind_among c q n (kinds q)
