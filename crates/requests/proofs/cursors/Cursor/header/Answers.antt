@@ -1,0 +1,8 @@
+-- Three bytes of the request as they stand, and a number.
+use Prim.Native.Nat.{◌+◌}
+use native.Mathlib.Omega.{arith}
+use borrow.Author.Rules.{rules}
+use Rattle.requests.proofs.cursors.Cursor.header.Goals as goal
+
+pub returns : goal.returns
+returns c = rw c.u32_at-new.ensures

@@ -1,0 +1,22 @@
+-- Each field where the one before ends.
+use mathlib.Core.Path.{◌≡◌, ap}
+use Prim.Native.Nat.{◌+◌}
+use native.Mathlib.Omega.{arith}
+use Rattle.format.specs.Layout.{renewal_at}
+use Rattle.requests.specs.declared.cursors.Number.{Number}
+use borrow.Author.Rules.{rules}
+use Rattle.requests.proofs.cursors.Cursor.lease.Goals as goal
+
+pub number-expiry-requires : goal.number-expiry-requires
+number-expiry-requires c = let e = ap (λ (x : Number). x.next.at) c.number-owner.ensures in omega (arith, e)
+
+pub returns : goal.returns
+returns c =
+    let p = c.args.self.at in
+    let e : p + 4 + 4 ≡ p + renewal_at = omega arith in
+    rw (
+      c.body.ensures,
+      c.number-expiry.ensures,
+      c.number-owner.ensures,
+      e,
+    )

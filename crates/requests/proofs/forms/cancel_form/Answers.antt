@@ -1,0 +1,10 @@
+-- By the length.
+use Rattle.requests.proofs.FormLaws.{cancel-length, cancel_taken}
+use borrow.Author.Rules.{rules}
+use Rattle.requests.proofs.forms.cancel_form.Goals as goal
+
+pub returns-then-q : goal.returns-then-q
+returns-then-q c = cancel-length _ c.if-q.true
+
+pub returns : goal.returns
+returns c = cancel_taken _ _ c.if-q.false c.requires
