@@ -1,4 +1,6 @@
 // Create: a fresh container in any buffer that does not begin with the magic.
+#![tactic(auto)]
+
 ghost use Rattle.std.specs.Prelude.{◌≡◌, ◌≤◌, length};
 ghost use Rattle.format.specs.Layout.{least, node_size, secret_size};
 ghost use Rattle.format.specs.Parts.{encode, fresh};
