@@ -1,5 +1,6 @@
 // What the share writers do (docs/RULES.md, S40 to S44, S53, S58). The definitions are in specs/, what holds of them in
 // proofs/.
+#![tactic(auto)]
 
 // The outcome's number, and on 0 the share's length.
 #[repr(C)]
