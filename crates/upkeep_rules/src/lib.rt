@@ -1,5 +1,7 @@
 // The upkeep of a container's leases by the rules: the audit and the sweep. The definitions are in specs/, what holds
 // of them in proofs/.
+#![tactic(auto)]
+
 use format::layout::{NODE_SIZE, SECRET_SIZE};
 
 // One lease in an audit's table: the five fields of its record.
