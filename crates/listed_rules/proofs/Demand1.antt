@@ -1,5 +1,5 @@
 -- Demand 1 of a call beside a list, for any bytes. Assumes nothing.
-use mathlib.Core.Path.{◌≡◌, refl, sym, ap, ◌∙◌}
+use mathlib.Core.Path.{subst, ◌≡◌, refl, sym, ap, ◌∙◌}
 use mathlib.Core.Bool.{Bool, true, false, cond, false≢true}
 use mathlib.Core.List.{List, [], ◌∷◌}
 use Prim.Native.Nat.{ℕ, ◌≤◌, ◌<◌}
@@ -56,13 +56,19 @@ module _ (c l q r : List ℕ) where
       go true e = eqb-true (kind_of q) 1 e
       go false e = absurd (omega (arith, h, few_others (parts_of c) q l (data_of c) g (eqb-false (kind_of q) 1 e)))
 
+  among : ℕ → Type 0
+  among n = Among n (numbers_beside (kind_of q))
+
   number_by : Ends c l q (length r) → Among (outcome_beside c l q (length r)) (numbers_beside (kind_of q))
-  unfolding numbers_beside any_of
-  number_by (malformed w e) = rw e (own_among (outcome c q (length r)) (kind_of q) (outcome_among c q (length r)))
-  number_by (bad_list w k e) = rw e refl
-  number_by (refused w k h e) = rw e (own_among (outcome c q (length r)) (kind_of q) (outcome_among c q (length r)))
-  number_by (too_many w k z m e) = rw (e, many_writes (good_list l (data_of c) k) m) refl
-  number_by (done w k z m e) = rw e (own_among 0 (kind_of q) (rw z at (outcome_among c q (length r))))
+  unfolding numbers_beside any_of among
+  number_by (malformed w e) =
+      subst among (sym e) (own_among (outcome c q (length r)) (kind_of q) (outcome_among c q (length r)))
+  number_by (bad_list w k e) = subst among (sym e) refl
+  number_by (refused w k h e) =
+      subst among (sym e) (own_among (outcome c q (length r)) (kind_of q) (outcome_among c q (length r)))
+  number_by (too_many w k z m e) = subst among (sym e) (rw (many_writes (good_list l (data_of c) k) m) refl)
+  number_by (done w k z m e) =
+      subst among (sym e) (own_among 0 (kind_of q) (rw z at (outcome_among c q (length r))))
 
   six_by : Ends c l q (length r) → outcome_beside c l q (length r) ≡ 6 → ⊥
   six_by (malformed w e) s = never_six c q (length r) (sym e ∙ s)
