@@ -1,3 +1,5 @@
 // The never-written list in code: judged where it lies, its rows in a lent table while a request is judged, written back.
+#![tactic(auto)]
+
 pub mod list;
 pub mod rows;

@@ -1,0 +1,39 @@
+use mathlib.Core.Path.{◌∙◌}
+use Prim.Native.Nat.{◌+◌, ◌*◌, ◌-◌}
+use native.Mathlib.Omega.{arith}
+use borrow.Author.Tests.{not-true, not-false}
+use Rattle.stretches.specs.List.{rows_at, row_size}
+use Rattle.lists.proofs.JudgeLaws.{ok_length, ok_count, ok_rest, ok_rows}
+use borrow.Author.Rules.{rules}
+use Rattle.lists.proofs.list.list_ok.Reads as reads
+use Rattle.lists.proofs.list.rows_ok.Reads as rows-ok-reads
+use Rattle.octets.proofs.numbers.u32_at.Reads as u32-at-reads
+use Rattle.octets.proofs.strings.all_zero.Reads as all-zero-reads
+use Rattle.lists.proofs.list.list_ok.Goals as goal
+
+-- src/list.rt:64:9
+pub returns-then-l-ne-LIST_LENGTH : goal.returns-then-l-ne-LIST_LENGTH
+returns-then-l-ne-LIST_LENGTH c = let a = c.args in ok_length a.l.now a.d.now c.if-l-ne-LIST_LENGTH.true
+
+-- src/list.rt:68:9
+pub returns-then-n-gt-ROW_LIMIT : goal.returns-then-n-gt-ROW_LIMIT
+returns-then-n-gt-ROW_LIMIT c =
+    let a = c.args in
+    ok_count a.l.now a.d.now (omega arith) c.u32_at-n.result c.u32_at-n.ensures (omega arith)
+
+-- src/list.rt:72:9
+pub returns-then-not-all_zero : goal.returns-then-not-all_zero
+returns-then-not-all_zero c =
+    let a = c.args in
+    ok_rest a.l.now a.d.now (omega arith) c.u32_at-n.result c.u32_at-n.ensures (omega arith)
+    c.all_zero.result c.all_zero.ensures (c.if-not-all_zero.true)
+
+-- src/list.rt:60:1
+pub returns : goal.returns
+returns c =
+    let a = c.args in
+    let n = c.u32_at-n.result in
+    c.rows_ok.ensures
+    ∙ ok_rows a.l.now a.d.now (omega arith) n c.u32_at-n.ensures (omega arith)
+    c.all_zero.result c.all_zero.ensures (rows_at + row_size * n - rows_at) (omega arith)
+    (c.if-not-all_zero.false)

@@ -1,0 +1,10 @@
+use mathlib.Core.Path.{ap₂}
+use Prim.Native.Nat.{ℕ, ◌+◌}
+use borrow.Author.Rules.{rules}
+use Rattle.lists.proofs.rows.row_at.Reads as reads
+use Rattle.octets.proofs.numbers.u32_at.Reads as u32-at-reads
+use Rattle.lists.proofs.rows.row_at.Goals as goal
+
+-- src/rows.rt:26:1
+pub returns : goal.returns
+returns c = ap₂ (λ (a k : ℕ). record { from = a; to = a + k }) c.u32_at-start.ensures c.u32_at-count.ensures
