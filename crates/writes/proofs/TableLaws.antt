@@ -164,7 +164,10 @@ module _ {q : List ℕ} {v p b size : ℕ} {e : Entry} {r : Resolved} (K : Taken
       → x ≡ write_at d r.position (take (length d - r.position) (take e.count (drop b q)))
       → write_all (map (clip F) (placed left onward)) x ≡ write_all (map (clip F) (placed (writes_from v p b q) size)) d
   unfolding write_all clip
-  entry_written F d x l g = rw (entry_placed, g, l)
+  entry_written F d x l g =
+      let b' : List ℕ = take e.count (drop b q) in
+      let onto : ℕ → List ℕ = λ m. write_at d r.position (take (m - r.position) b') in
+      rw entry_placed (ap (write_all (map (clip F) (placed left onward))) (g ∙ ap onto (sym l)))
 
 -- Nothing left.
 none_left : (v p b : ℕ) (q : List ℕ) → v ≤ 0 → writes_from v p b q ≡ []
