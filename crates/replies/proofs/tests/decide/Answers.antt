@@ -12,8 +12,7 @@ use borrow.Author.Rules.{rules}
 use borrow.Author.Tests.{lt-ltb, le-ltb, le-leb, lt-leb, ne_eqb}
 use Rattle.rules.specs.Testing.{below, level, at_most, decides}
 use native.Mathlib.Omega.{arith}
-use Rattle.replies.proofs.tests.decide.Statement.{statement}
-use Rattle.replies.proofs.tests.decide.Tie as tie
+use Rattle.replies.proofs.tests.decide.Goals as goal
 
 lt-is : (z : ℤ) → lt_z z (pos 0) ≡ below z
 unfolding below
@@ -56,37 +55,34 @@ module _ (z : ℤ) (f : SFits w32 z) where
   gt-code : lt_z (pos 0) (to_z w32 (of_z w32 z)) ≡ not (at_most z)
   gt-code = rw (to_z-of_z w32 z f) (gt-is z)
 
-returns : tie.Need-returns
+pub returns-then-opcode-eq1 : goal.returns-then-opcode-eq1
 unfolding decides
-returns c = rw c.if1.true (lt-code c.before.args.order (search rules))
+returns-then-opcode-eq1 c = rw c.if-opcode-eq1.true (lt-code c.args.order (search rules))
 
-returns-2 : tie.Need-returns-2
+pub returns-then-opcode-eq2 : goal.returns-then-opcode-eq2
 unfolding decides
-returns-2 c = rw c.if2.true (le-code c.before.before.args.order (search rules))
+returns-then-opcode-eq2 c = rw c.if-opcode-eq2.true (le-code c.args.order (search rules))
 
-returns-3 : tie.Need-returns-3
+pub returns-then-opcode-eq3 : goal.returns-then-opcode-eq3
 unfolding decides
-returns-3 c = rw c.if3.true (eq-code c.before.before.before.args.order (search rules))
+returns-then-opcode-eq3 c = rw c.if-opcode-eq3.true (eq-code c.args.order (search rules))
 
-returns-4 : tie.Need-returns-4
+pub returns-then-opcode-eq4 : goal.returns-then-opcode-eq4
 unfolding decides
-returns-4 c = rw c.if4.true (ap not (eq-code c.before.before.before.before.args.order (search rules)))
+returns-then-opcode-eq4 c = rw c.if-opcode-eq4.true (ap not (eq-code c.args.order (search rules)))
 
-returns-5 : tie.Need-returns-5
+pub returns-then-opcode-eq5 : goal.returns-then-opcode-eq5
 unfolding decides
-returns-5 c = rw c.if5.true (ge-code c.before.before.before.before.before.args.order (search rules))
+returns-then-opcode-eq5 c = rw c.if-opcode-eq5.true (ge-code c.args.order (search rules))
 
-returns-6 : tie.Need-returns-6
+pub returns : goal.returns
 unfolding decides
-returns-6 c =
-    let a = c.before.before.before.before.before.args in
+returns c =
+    let a = c.args in
     rw (
-      ne_eqb a.opcode 1 c.before.before.before.before.if1.false,
-      ne_eqb a.opcode 2 c.before.before.before.if2.false,
-      ne_eqb a.opcode 3 c.before.before.if3.false,
-      ne_eqb a.opcode 4 c.before.if4.false,
-      ne_eqb a.opcode 5 c.if5.false,
+      ne_eqb a.opcode 1 c.if-opcode-eq1.false,
+      ne_eqb a.opcode 2 c.if-opcode-eq2.false,
+      ne_eqb a.opcode 3 c.if-opcode-eq3.false,
+      ne_eqb a.opcode 4 c.if-opcode-eq4.false,
+      ne_eqb a.opcode 5 c.if-opcode-eq5.false,
     ) (gt-code a.order (search rules))
-
-pub decide-spec : {M : Type 1} → statement M
-decide-spec = tie.close (tie.spec returns returns-2 returns-3 returns-4 returns-5 returns-6)
