@@ -1,4 +1,6 @@
 // The share writers: from numbers and parts to a share's bytes in lent space.
+#![tactic(auto)]
+
 ghost use Rattle.std.specs.Prelude.{◌≡◌, true, [], ◌∷◌, ◌++◌, ◌+◌, ◌≤◌, ◌<◌, leb, length, get_or};
 ghost use Rattle.octets.specs.Facts.{Each, Fits64};
 ghost use Rattle.octets.specs.Lists.{sum};
