@@ -1,0 +1,14 @@
+-- The token is copied out whole. Assumes nothing.
+use mathlib.Core.Path.{◌≡◌, ap, ◌∙◌}
+use Prim.Native.Nat.{ℕ, ◌+◌, ◌-◌}
+use native.Mathlib.Omega.{arith}
+use lib.ListN.{take, drop}
+use Rattle.format.specs.Layout.{secret_size}
+use borrow.Author.Rules.{rules}
+use Rattle.upkeep.proofs.auditing.token_at.Goals as goal
+
+pub returns : goal.returns
+returns c =
+    let a = c.args in
+    let e : a.at + secret_size - a.at ≡ secret_size = omega arith in
+    c.copy.ensures ∙ ap (λ (m : ℕ). take m (drop a.at a.c.now)) e
