@@ -1,4 +1,6 @@
 // Kind 5: a read on a well-formed container.
+#![tactic(auto)]
+
 ghost use Rattle.std.specs.Prelude.{◌≡◌};
 ghost use Rattle.format.specs.Judging.{Known};
 ghost use Rattle.rules.specs.Outcomes.{answered, reply_after};
