@@ -1,5 +1,7 @@
 // Kind 1: a test-and-write on a well-formed container, judged, answered and committed. A crate above that puts rows of
 // its own behind the verdict settles it itself.
+#![tactic(auto)]
+
 ghost use Rattle.std.specs.Prelude.{◌≡◌, length};
 ghost use Rattle.format.specs.Judging.{Known};
 ghost use Rattle.rules.specs.Outcomes.{replies, answered, container_after, reply_after};
