@@ -1,0 +1,6 @@
+-- All boundaries are 0.
+use borrow.Author.Rules.{rules}
+use Rattle.shares.proofs.share.refused.Goals as goal
+
+pub returns : goal.returns
+returns c = rw c.version_of.ensures
