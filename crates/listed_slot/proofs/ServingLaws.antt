@@ -8,8 +8,6 @@ use native.Mathlib.Omega.{arith}
 use lib.ListN.{length}
 use lib.Dec.{eqb, leb}
 use borrow.Author.Tests.{eqb-true, ne_eqb, leb-true, leb-false, lt-ltb, le-ltb}
-use types.Run.{OneOf, miss}
-use denote.Enum.Declared.{tag_of}
 use Rattle.octets.specs.Facts.{Fits32}
 use Rattle.format.specs.Container.{length_allowed, well_formed}
 use Rattle.format.specs.Judging.{Known}
@@ -28,7 +26,6 @@ use Rattle.requests.specs.declared.forms.Form.{Form}
 use Rattle.requests.specs.declared.forms.Form.TheVariants.{Broken, TestWrite, Add, Renew, Cancel}
 use Rattle.requests.specs.declared.forms.Form.TheVariants.{Read as ReadForm}
 use Rattle.requests.specs.declared.forms.Parted.{Parted}
-use Rattle.requests.specs.contracts.forms.Form.{the_type}
 use Rattle.container.specs.Looking.{read_bytes, read_of}
 use Rattle.stretches.specs.Stretches.{Stretch, stretches_after}
 use Rattle.stretches.specs.List.{list_length, row_limit, rows_at, row_count, stretches_of, list_bytes, list_ok}
@@ -69,9 +66,9 @@ still_list p (some (cancel t)) l h = refl
 still_list p (some (read rs)) l h = refl
 
 -- Of the six forms only the second, a test-and-write's, is none of them.
-pub still_form : (q : List ℕ) (f : Form) → OneOf (0 ∷ 2 ∷ 3 ∷ 4 ∷ 5 ∷ []) (tag_of the_type f) → Still (asked q f)
+pub still_form : (q : List ℕ) (f : Form) → ((x : Parted) → f ≡ TestWrite x → ⊥) → Still (asked q f)
 still_form q Broken k = tt
-still_form q (TestWrite t) k = absurd (miss (0 ∷ 2 ∷ 3 ∷ 4 ∷ 5 ∷ []) 1 tt k)
+still_form q (TestWrite t) k = absurd (k t refl)
 still_form q (Add r) k = tt
 still_form q (Renew t x) k = tt
 still_form q (Cancel t) k = tt
