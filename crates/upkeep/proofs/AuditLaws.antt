@@ -169,11 +169,7 @@ pub record Filling (c : List ℕ) (n : ℕ) : Type 0 where
   pub done : ℕ
   pub at : ℕ
   pub few : done ≤ n
-  pub fits : at < 2 ^ 64
   pub left : rows_from c at ≡ drop done (rows_in c)
-
-abbrev pub unfilled : (c : List ℕ) (n : ℕ) → Filling c n
-unfilled c n = record { done = 0; at = 0; few = zero-le; fits = lit< tt; left = refl }
 
 module _ (c : List ℕ) (old : List LeaseRow) (n : ℕ) (d : Due c old n) (t : Filling c n) where
   pub filled-length : length (filled c old t.done) ≡ length old
@@ -202,9 +198,6 @@ module _ (c : List ℕ) (old : List LeaseRow) (n : ℕ) (d : Due c old n) (t : F
 
       pub left_more : rows_from c next ≡ drop (t.done + 1) (rows_in c)
       left_more = rw add-one (sym (ap (drop 1) row_then))
-
-      abbrev pub filling-more : next < 2 ^ 64 → Filling c n
-      filling-more f = record { done = t.done + 1; at = next; few = few_more; fits = f; left = left_more }
 
       pub filled_more : set (filled c old t.done) t.done r ≡ filled c old (t.done + 1)
       filled_more =

@@ -1,4 +1,3 @@
--- Laws of the upkeep's code, and steps for a walk by hand.
+-- Laws of the upkeep's code.
 pub mod AuditLaws
 pub mod SweepLaws
-pub mod Steps
