@@ -1,4 +1,6 @@
 // What C and Rust call: numbers and byte slices in, structs of numbers out. Nothing is asked of the caller.
+#![tactic(auto)]
+
 ghost use Rattle.std.specs.Prelude.{◌≡◌, length};
 ghost use Rattle.rules.specs.Outcomes.{create_answer, created_container, answered, container_after, reply_after};
 ghost use Rattle.container.specs.Looking.{read_of};
