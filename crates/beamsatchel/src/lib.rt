@@ -63,8 +63,7 @@ pub extern "C" fn beamsatchel_read_listed(c: &[u8], l: &[u8], q: &[u8], r: &mut 
     listed_slot::looking::read_only(c, l, q, r)
 }
 
-// The rows one by one, each looked for behind the one before it. A table of structs that the caller lends is no form
-// that the checker walks by itself: this proof is by hand.
+// The rows one by one, each looked for behind the one before it.
 #[unsafe(no_mangle)]
 pub extern "C" fn beamsatchel_audit(c: &[u8], rows: &mut [LeaseRow]) -> Answer
     ensures value { result ≡ audit_answer c.now (length rows.old) }

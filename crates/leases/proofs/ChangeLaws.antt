@@ -14,10 +14,10 @@ use Rattle.octets.specs.Strings.{join}
 use Rattle.octets.specs.Facts.{Octets, Each}
 use Rattle.octets.specs.Moves.{put}
 use Rattle.octets.proofs.NumberLaws.{length_digits, digits_at}
-use Rattle.octets.proofs.StringLaws.{zeros_are, octets_take, octets_drop, join_snoc}
+use Rattle.octets.proofs.StringLaws.{octets_take, octets_drop, join_snoc}
 use Rattle.format.specs.Layout.{expiry_of, count_size, record_size, fixed_places, leases_at, leases_of}
 use Rattle.format.specs.Layout.{data_of, slack_of, used_length, extras_at, records, expiry_at, renewal_at}
-use Rattle.format.specs.Container.{held, record_ok}
+use Rattle.format.specs.Container.{held}
 use Rattle.format.specs.Claims.{Place, Valid}
 use Rattle.format.specs.Parts.{extras, Parts, front_of, head_of, tail_of, parts_of, count_in, used, no_lease}
 use Rattle.octets.proofs.ListLaws.{each_take, each_drop, each_set, field_then}

@@ -9,8 +9,7 @@ use native.Mathlib.Omega.{arith}
 use lib.Dec.{eqb, leb, ltb}
 use lib.ListN.{length, take, drop, get_or, set, length-set, take-append-drop}
 use borrow.Author.Tests.{not-true, le-leb, lt-leb, lt-ltb, le-ltb, ne_eqb}
-use Rattle.octets.specs.Numbers.{number_after, number, number_at}
-use Rattle.format.specs.Layout.{owner_of, renewal_of, cancel_of, expiry_of, leases_of, fixed_places, record_size, cancel_at}
+use Rattle.format.specs.Layout.{renewal_of, cancel_of, expiry_of, leases_of, fixed_places, record_size, cancel_at}
 use Rattle.format.specs.Layout.{lease_limit, renewal_at, used_length}
 use Rattle.format.specs.Container.{held}
 use Rattle.format.specs.Parts.{Parts, used, parts_of, no_lease}

@@ -12,7 +12,7 @@ use Rattle.format.specs.Container.{well_formed}
 use Rattle.format.specs.Layout.{data_of}
 use Rattle.format.specs.Parts.{parts_of}
 use Rattle.rules.specs.Requests.{request_of}
-use Rattle.rules.specs.Outcomes.{rows, request_rows, outcome, replies, answered, container_after, reply_after}
+use Rattle.rules.specs.Outcomes.{request_rows, outcome, replies, answered, container_after, reply_after}
 use Rattle.rules.proofs.Kept.{request_numbered}
 use Rattle.rules.proofs.OutcomeLaws.{formed_length, outcome_formed, answer-number}
 use Rattle.stretches.specs.Stretches.{Stretch}

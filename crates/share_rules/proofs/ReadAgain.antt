@@ -14,7 +14,7 @@ use Rattle.octets.specs.Facts.{Octets}
 use Rattle.octets.specs.Numbers.{number_at, digits}
 use Rattle.octets.specs.Rows.{first_row}
 use Rattle.octets.specs.Strings.{join}
-use Rattle.octets.proofs.ListLaws.{both, field_then}
+use Rattle.octets.proofs.ListLaws.{field_then}
 use Rattle.octets.proofs.NumberLaws.{digits_at, number_at-below}
 use Rattle.octets.proofs.RowLaws.{clear}
 use Rattle.octets.proofs.StringLaws.{octets_take, octets_drop}

@@ -5,23 +5,20 @@ use mathlib.Core.List.{List, [], ◌∷◌, ◌++◌, map}
 use Prim.Native.Nat.{ℕ, zero, suc, ◌+◌, ◌-◌, ◌≤◌, ◌<◌}
 use native.Mathlib.Omega.{arith}
 use lib.Dec.{leb, ltb}
-use lib.ListN.{length, take, drop, get_or, replicate, take-append-drop, get_or-append}
+use lib.ListN.{length, take, drop, get_or, take-append-drop, get_or-append}
 use lib.Seq.{length-take-le, get_or-append-add, get_or-take, get_or-drop}
-use borrow.Author.Tests.{ltb-true, ltb-false, le-leb, lt-leb, lt-ltb, leb-true}
+use borrow.Author.Tests.{ltb-true, ltb-false, le-leb, lt-leb, leb-true}
 use Rattle.octets.specs.Facts.{Each}
 use Rattle.octets.specs.Lists.{only}
-use Rattle.octets.specs.Numbers.{number_after, number, number_at}
-use Rattle.octets.specs.Strings.{all_zero}
 use Rattle.octets.proofs.ListLaws.{each_append, each_take, each_drop}
-use Rattle.octets.proofs.StringLaws.{zeros_are}
-use Rattle.format.specs.Layout.{record_size, fixed_places, owner_of, expiry_of}
-use Rattle.format.specs.Container.{held, record_ok, last_held}
+use Rattle.format.specs.Layout.{fixed_places, expiry_of}
+use Rattle.format.specs.Container.{held, last_held}
 use Rattle.format.specs.Parts.{no_lease}
 use Rattle.format.specs.Claims.{Place}
 use Rattle.format.proofs.RoundTrip.{no_lease-held, empty_is}
 use Rattle.rules.specs.Leasing.{with_last, trim, drop_tail}
 use Rattle.rules.proofs.LeaseLaws.{each_trim}
-use Rattle.upkeep_rules.specs.Sweeping.{expired, swept_place, swept}
+use Rattle.upkeep_rules.specs.Sweeping.{expired, swept_place}
 
 -- ---- one place after a sweep
 -- the lease in it, if it has one, is not below the time

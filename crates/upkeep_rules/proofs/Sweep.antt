@@ -6,20 +6,19 @@ use mathlib.Core.Logic.{◌↔◌}
 use Prim.Native.Nat.{ℕ, ◌≤◌, ◌<◌}
 use native.Mathlib.Omega.{arith}
 use lib.Dec.{eqb}
-use lib.ListN.{length, get_or, length-map}
+use lib.ListN.{length, length-map}
 use borrow.Author.Tests.{ne_eqb}
-use Rattle.octets.specs.Facts.{Octets, Each, Among}
-use Rattle.octets.specs.Lists.{only, any_of}
+use Rattle.octets.specs.Facts.{Among}
+use Rattle.octets.specs.Lists.{any_of}
 use Rattle.octets.specs.Rows.{first_row}
-use Rattle.format.specs.Layout.{leases_of, expiry_of, count_at, data_of, slack_of, node_of, enabler_of}
+use Rattle.format.specs.Layout.{leases_of, expiry_of, count_at}
 use Rattle.format.specs.Container.{length_allowed, held, well_formed}
-use Rattle.format.specs.Parts.{Parts, count_in, parts_of, encode, no_lease}
+use Rattle.format.specs.Parts.{Parts, count_in, parts_of, encode}
 use Rattle.format.specs.Claims.{Valid}
 use Rattle.format.proofs.RoundTrip.{leases_encode, parts_encode, encode_formed, encode_parts, parts_valid}
 use Rattle.format.proofs.RoundTrip.{parts_count}
-use Rattle.rules.specs.Leasing.{drop_tail, present}
 use Rattle.rules.specs.Outcomes.{with_leases}
-use Rattle.upkeep_rules.specs.Sweeping.{expired, swept_place, swept, after_sweep, sweep_outcome, sweep_to, sweep_answer}
+use Rattle.upkeep_rules.specs.Sweeping.{swept_place, swept, after_sweep, sweep_outcome, sweep_to, sweep_answer}
 use Rattle.upkeep_rules.specs.Sweeping.{swept_container}
 use Rattle.upkeep_rules.specs.Claims.{Sweeps, DemandSweep}
 use Rattle.upkeep_rules.proofs.SweepLaws.{sweep_formed, places_swept, swept_valid}

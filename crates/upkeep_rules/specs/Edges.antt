@@ -1,5 +1,5 @@
 -- Numbers at the edges of audits and sweeps (docs/RULES.md, P64 to P69), as two tables with one claim.
-use Rattle.std.specs.Prelude.{ℕ, zero, suc, ◌+◌, ◌≡◌, List, [], ◌∷◌, ◌++◌, map, length, replicate}
+use Rattle.std.specs.Prelude.{ℕ, zero, suc, ◌+◌, ◌≡◌, List, [], ◌∷◌, ◌++◌, map, replicate}
 use Rattle.octets.specs.Numbers.{digits}
 use Rattle.format.specs.Layout.{data_of, slack_of, leases_of, owner_of, used_end}
 use Rattle.format.specs.Parts.{no_lease}

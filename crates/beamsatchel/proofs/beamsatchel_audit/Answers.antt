@@ -1,9 +1,8 @@
 -- The rows that are put and those that are left are those of the container.
-use Rattle.std.proofs.Common.{slice_set, ◌≡◌, ◌<◌, ◌≤◌, length, refl, sym, ap, subst, ◌∙◌, ℕ, List, rules, arith}
-use Rattle.rules.specs.declared.Answer.{Answer}
+use Rattle.std.proofs.Common.{slice_set, ◌≡◌, length, sym, ap, subst, ◌∙◌, ℕ, List, arith}
 use Rattle.upkeep_rules.specs.Auditing.{audit_answer}
 use Rattle.upkeep_rules.specs.declared.LeaseRow.{LeaseRow}
-use Rattle.upkeep.proofs.AuditLaws.{filled, Due, due, Filling, filling_asks, filled-length, filled_more, few_more, left_more}
+use Rattle.upkeep.proofs.AuditLaws.{filled, Due, due, Filling, filling_asks, filled_more, few_more, left_more}
 use Rattle.beamsatchel.proofs.beamsatchel_audit.Goals as goal
 
 due_in : (c : List ℕ) (old : List LeaseRow) (n : ℕ) → n ≡ (audit_answer c (length old)).count → Due c old n

@@ -8,7 +8,6 @@ use Rattle.format.specs.Layout.{node_size, secret_size}
 use Rattle.format.specs.Container.{length_allowed}
 use Rattle.format.proofs.JudgingLaws.{length-true, too_short, too_long}
 use Rattle.creation.proofs.FreshLaws.{create_length, create_lengths, create_magic, create_done}
-use borrow.Author.Rules.{rules}
 use Rattle.creation.proofs.create.Goals as goal
 
 pub returns-then-c-lt-LEAST : goal.returns-then-c-lt-LEAST

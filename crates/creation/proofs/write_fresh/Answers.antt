@@ -1,7 +1,6 @@
 -- The stores into a cleared buffer, one after the other. Assumes nothing.
 use lib.ListN.{length}
 use Rattle.creation.proofs.FreshLaws.{fresh-bytes}
-use borrow.Author.Rules.{rules}
 use Rattle.creation.proofs.write_fresh.Goals as goal
 
 pub returns : goal.returns

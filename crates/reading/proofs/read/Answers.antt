@@ -3,7 +3,6 @@ use native.Mathlib.Omega.{arith}
 use borrow.Author.Tests.{not-true, not-false}
 use Rattle.format.proofs.KnownLaws.{lent, known_room, data_lent_lem, lent_small}
 use Rattle.reading.proofs.ReadLaws.{Asked, reply_length, read_unresolved, read_no_space, read_done}
-use borrow.Author.Rules.{rules}
 use Rattle.reading.proofs.read.Goals as goal
 
 pub data_end-e-requires : goal.data_end-e-requires

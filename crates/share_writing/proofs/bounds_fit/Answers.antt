@@ -1,8 +1,6 @@
 -- The order, then the fields.
 use mathlib.Core.Path.{sym, ◌∙◌}
-use borrow.Author.Tests.{not-true, not-false}
 use Rattle.share_rules.specs.Writing.{bounds_fit}
-use borrow.Author.Rules.{rules}
 use Rattle.share_writing.proofs.bounds_fit.Goals as goal
 
 pub returns-then-not-placed_ok : goal.returns-then-not-placed_ok

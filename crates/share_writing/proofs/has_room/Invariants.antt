@@ -1,11 +1,9 @@
 -- What is asked of the space is what the sizes that are left ask of what is left of it.
-use mathlib.Core.Path.{◌≡◌, sym, ◌∙◌}
+use mathlib.Core.Path.{◌≡◌}
 use Prim.Native.Nat.{◌+◌, ◌-◌, ◌≤◌}
 use lib.Dec.{leb}
 use lib.ListN.{length, drop}
 use Rattle.octets.specs.Lists.{sum}
-use Rattle.share_writing.proofs.RoomLaws.{room_start, room_none, room_more, room_short, room_end}
-use native.Mathlib.Omega.{arith}
 use Rattle.share_writing.proofs.has_room.Given as goal
 
 abbrev pub invariant-loop-i : goal.invariant-loop-i

@@ -9,7 +9,6 @@ use Rattle.octets.specs.Strings.{join}
 use Rattle.octets.proofs.MoveLaws.{put-put}
 use Rattle.share_format.specs.Header.{number_fields, offset_fields}
 use Rattle.share_format.proofs.HeaderLaws.{length-numbers, length_offsets}
-use borrow.Author.Rules.{rules}
 use Rattle.share_writing.proofs.lay_out.Goals as goal
 
 pub returns : goal.returns

@@ -2,7 +2,6 @@
 use native.Mathlib.Omega.{arith}
 use Rattle.share_format.specs.Bounds.{packed}
 use Rattle.share_writing.proofs.SizeLaws.{sum_seven, packed_seven}
-use borrow.Author.Rules.{rules}
 use Rattle.share_writing.proofs.places.Goals as goal
 
 pub overflow_add-second : goal.overflow_add-second

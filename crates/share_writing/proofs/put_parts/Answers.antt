@@ -3,7 +3,6 @@ use mathlib.Core.Path.{refl}
 use native.Mathlib.Omega.{arith}
 use Rattle.octets.proofs.MoveLaws.{stored_none, stored_more, stored_at}
 use lib.ListN.{length, get_or}
-use borrow.Author.Rules.{rules}
 use Rattle.share_writing.proofs.put_parts.Goals as goal
 
 pub copy_part-requires-7 : goal.copy_part-requires-7

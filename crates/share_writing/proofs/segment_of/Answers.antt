@@ -9,7 +9,6 @@ use Rattle.share_format.specs.Parts.{least_multiple}
 use Rattle.share_numbers.specs.Coding.{segment_ok}
 use Rattle.share_format.proofs.HeaderLaws.{fits_64}
 use Rattle.share_rules.specs.Writing.{segment_fits}
-use borrow.Author.Rules.{rules}
 use Rattle.share_writing.proofs.segment_of.Goals as goal
 
 pub returns-then-mdmf : goal.returns-then-mdmf

@@ -16,7 +16,6 @@ use Rattle.share_writing.specs.Facts.{segment_for}
 use Rattle.share_rules.specs.Writing.{sizes_ok, segment_fits}
 use Rattle.share_rules.proofs.WritingLaws.{rows_3, rows_7, rows_23, rows_24, rows_25, rows_rest}
 use Rattle.share_writing.proofs.VerdictLaws.{judges_refused}
-use borrow.Author.Rules.{rules}
 use Rattle.share_writing.proofs.verdict_of.Goals as goal
 
 pub returns-then-root-ne-HASH_SIZE : goal.returns-then-root-ne-HASH_SIZE

@@ -5,7 +5,6 @@ use Rattle.share_rules.specs.Writing.{mdmf_with, write_rows, write_outcome}
 use Rattle.share_rules.proofs.WritingLaws.{places_end, answer-refused, answer-done, encoded}
 use Rattle.share_writing.proofs.SizeLaws.{places_seven}
 use Rattle.share_writing.proofs.VerdictLaws.{layable}
-use borrow.Author.Rules.{rules}
 use Rattle.share_writing.proofs.write_mdmf.Goals as goal
 
 pub returns-then-number-ne0 : goal.returns-then-number-ne0

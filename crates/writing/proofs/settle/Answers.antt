@@ -3,12 +3,10 @@
 use mathlib.Core.Path.{◌≡◌, sym, ◌∙◌}
 use mathlib.Core.Bool.{true}
 use native.Mathlib.Omega.{arith}
-use borrow.Author.Tests.{not-true, not-false}
 use Rattle.rules.specs.Outcomes.{replies}
 use Rattle.format.proofs.KnownLaws.{known_room, data_lent_lem, lent_small}
 use Rattle.writing.proofs.WriteRequestLaws.{Writing, decided, differs, other, accepted, reply_fits, failed}
 use Rattle.writing.proofs.WriteRequestLaws.{done}
-use borrow.Author.Rules.{rules}
 use Rattle.writing.proofs.settle.Goals as goal
 
 pub enabler_differs-requires : goal.enabler_differs-requires

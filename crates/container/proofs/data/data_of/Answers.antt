@@ -1,7 +1,6 @@
 -- What is lent lies inside the slice, from where it begins to where it ends.
 use native.Mathlib.Omega.{arith}
 use Rattle.container.proofs.DataLaws.{beyond_is, lent-inside, lent-bytes}
-use borrow.Author.Rules.{rules}
 use Rattle.container.proofs.data.data_of.Goals as goal
 
 pub slice_bounds-result-count : goal.slice_bounds-result-count

@@ -5,7 +5,6 @@ use Rattle.format.specs.Judging.{Judges}
 use Rattle.format.proofs.JudgingLaws.{judged_formed}
 use Rattle.format.proofs.KnownLaws.{known_room}
 use Rattle.container.proofs.DataLaws.{lent_length, lent-malformed, lent_formed}
-use borrow.Author.Rules.{rules}
 use Rattle.container.proofs.data.find_data.Goals as goal
 
 pub data_end-to-requires : goal.data_end-to-requires

@@ -1,6 +1,6 @@
 -- A read goes to its reader; anything else is refused as the empty request is.
 use mathlib.Core.Path.{◌≡◌, refl, sym, ap, subst, ◌∙◌}
-use mathlib.Core.List.{List, [], ◌∷◌}
+use mathlib.Core.List.{List, []}
 use mathlib.Core.Option.{Option}
 use Prim.Native.Nat.{ℕ}
 use lib.ListN.{get_or}
@@ -15,7 +15,6 @@ use Rattle.requests.specs.Forms.{Takes, asked}
 use Rattle.requests.proofs.FormLaws.{by_kind_lem, too_long, empty_kind}
 use Rattle.container.specs.Looking.{read_bytes}
 use Rattle.container.proofs.LookingLaws.{looked_read, looked_other, broken_other, kind_other}
-use borrow.Author.Rules.{rules}
 use Rattle.container.proofs.looking.read_formed.Goals as goal
 
 -- Of the six forms only the last, a read's, passes.

@@ -4,7 +4,6 @@ use Rattle.format.specs.Judging.{Judges}
 use Rattle.format.proofs.JudgingLaws.{judged_formed, judged-malformed, judged-length}
 use Rattle.rules.proofs.RefusalLaws.{bad_length, malformed}
 use Rattle.container.specs.Looking.{read_of}
-use borrow.Author.Rules.{rules}
 use Rattle.container.proofs.looking.read_only.Goals as goal
 
 pub read_formed-requires : goal.read_formed-requires

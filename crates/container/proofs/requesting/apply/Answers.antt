@@ -3,7 +3,6 @@ use mathlib.Core.Path.{subst, ◌∙◌}
 use Rattle.format.specs.Judging.{Judges}
 use Rattle.format.proofs.JudgingLaws.{judged_formed, judged-malformed, judged-length}
 use Rattle.rules.proofs.RefusalLaws.{bad_length, malformed}
-use borrow.Author.Rules.{rules}
 use Rattle.container.proofs.requesting.apply.Goals as goal
 
 pub apply_formed-requires : goal.apply_formed-requires

@@ -16,7 +16,6 @@ use Rattle.leases.specs.Operations.{lease_done, lease_container}
 use Rattle.rules.proofs.RefusalLaws.{broken}
 use Rattle.container.proofs.LeaseRequestLaws.{lease-results}
 use Rattle.rules.proofs.ShortReads.{read_container}
-use borrow.Author.Rules.{rules}
 use Rattle.container.proofs.requesting.apply_formed.Goals as goal
 
 pub test_and_write-requires : goal.test_and_write-requires

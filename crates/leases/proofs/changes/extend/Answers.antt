@@ -1,7 +1,6 @@
 -- The place keeps the later expiry, whether it is stored or stands there already. Assumes nothing.
 use mathlib.Core.Path.{◌∙◌}
 use native.Mathlib.Omega.{arith}
-use borrow.Author.Rules.{rules}
 use Rattle.octets.specs.Facts.{Octets}
 use Rattle.leases.proofs.PlaceLaws.{known_bounds, Inside, inside}
 use Rattle.leases.proofs.ChangeLaws.{put_expiry, keep_expiry}

@@ -5,7 +5,6 @@ use Prim.Native.Nat.{ℕ}
 use native.Mathlib.Omega.{arith}
 use lib.ListN.{length, drop, length-drop}
 use lib.Seq.{length-take-le}
-use borrow.Author.Rules.{rules}
 use Rattle.format.specs.Layout.{renewal_at, renewal_of, record_size, secret_size}
 use Rattle.leases.specs.Places.{has_token}
 use Rattle.leases.proofs.OperationLaws.{Finds, found_inside, add_here, add_new}

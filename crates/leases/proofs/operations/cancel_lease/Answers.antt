@@ -1,7 +1,6 @@
 -- The answer by where the token stands; the lease that is cancelled was one of those present. Assumes nothing.
 use mathlib.Core.Path.{sym, ◌∙◌}
 use native.Mathlib.Omega.{arith}
-use borrow.Author.Rules.{rules}
 use Rattle.format.specs.Layout.{cancel_at}
 use Rattle.leases.specs.Places.{has_token}
 use Rattle.leases.proofs.OperationLaws.{Finds, found_inside, cancelled-present, cancel_here, cancel_unknown}

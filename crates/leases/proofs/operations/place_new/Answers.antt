@@ -2,7 +2,6 @@
 use mathlib.Core.Path.{◌≡◌, sym, ap, ◌∙◌}
 use Prim.Native.Nat.{◌+◌}
 use native.Mathlib.Omega.{arith}
-use borrow.Author.Rules.{rules}
 use Rattle.format.specs.Layout.{used_length}
 use Rattle.format.specs.declared.layout.Frame.{Frame}
 use Rattle.rules.specs.Leasing.{vacant}

@@ -1,6 +1,5 @@
 -- The answer by where the token stands. Assumes nothing.
 use mathlib.Core.Path.{sym, ◌∙◌}
-use borrow.Author.Rules.{rules}
 use Rattle.format.specs.Layout.{renewal_at}
 use Rattle.leases.specs.Places.{has_token}
 use Rattle.leases.proofs.OperationLaws.{Finds, found_inside, renew_here, renew_unknown}

@@ -1,13 +1,8 @@
 -- The invariant: the leases counted and those in the places left are all. Assumes nothing.
-use mathlib.Core.Path.{◌≡◌, sym, ◌∙◌}
+use mathlib.Core.Path.{sym, ◌∙◌}
 use mathlib.Core.Bool.{true, false}
-use mathlib.Core.Logic.{⊎_elim}
-use Prim.Native.Nat.{◌+◌, ◌*◌, ◌≤◌}
 use native.Mathlib.Nat.{zero-add}
 use native.Mathlib.Omega.{arith}
-use lib.ListN.{length}
-use Rattle.format.specs.Layout.{records, record_size, lease_limit}
-use Rattle.rules.specs.Leasing.{present}
 use Rattle.leases.proofs.PlaceLaws.{present_more, present-none}
 use Rattle.leases.proofs.places.count_held.Goals as goal
 use Rattle.leases.proofs.places.count_held.Goals.{then-is_held, else-is_held}

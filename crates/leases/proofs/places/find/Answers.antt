@@ -1,11 +1,9 @@
 -- The invariant: no place before i passes. Assumes nothing.
 use mathlib.Core.Path.{sym, ap, ◌∙◌}
-use Prim.Native.Nat.{◌+◌, ◌-◌, ◌≤◌}
 use native.Mathlib.Omega.{arith}
 use borrow.Author.Count.{below_none}
 use Rattle.leases.specs.Places.{has_token, found_of}
-use Rattle.leases.proofs.PlaceLaws.{known_bounds, place_inside, passed_here, passed_more, passed_all, Passed}
-use Rattle.format.specs.Layout.{fixed_places}
+use Rattle.leases.proofs.PlaceLaws.{known_bounds, place_inside, passed_here, passed_more, passed_all}
 use Rattle.leases.proofs.places.find.Goals as goal
 
 pub overflow_add-n : goal.overflow_add-n

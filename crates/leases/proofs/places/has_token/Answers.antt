@@ -2,8 +2,6 @@
 use mathlib.Core.Path.{◌≡◌, sym, ◌∙◌}
 use Prim.Native.Nat.{◌+◌, ◌-◌}
 use native.Mathlib.Omega.{arith}
-use borrow.Author.Tests.{not-true, not-false}
-use borrow.Author.Rules.{rules}
 use Rattle.format.specs.Layout.{record_size, secret_size}
 use Rattle.leases.specs.Places.{has_token}
 use Rattle.octets.proofs.ListLaws.{part_part}

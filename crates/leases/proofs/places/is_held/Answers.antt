@@ -1,5 +1,4 @@
 -- The owner of a place is the number in its first four bytes. Assumes nothing.
-use borrow.Author.Rules.{rules}
 use Rattle.format.proofs.JudgingLaws.{held_at}
 use Rattle.leases.proofs.places.is_held.Goals as goal
 

@@ -1,11 +1,8 @@
 -- The invariant: the places beyond `left` are empty, so what is kept is kept of the first `left`. Assumes nothing.
-use mathlib.Core.Path.{◌≡◌, refl, sym, ap, ◌∙◌}
+use mathlib.Core.Path.{◌≡◌}
 use Prim.Native.Nat.{◌≤◌}
-use native.Mathlib.Omega.{arith}
-use lib.ListN.{length}
 use Rattle.format.specs.Layout.{records}
 use Rattle.rules.specs.Leasing.{trim}
-use Rattle.leases.proofs.PlaceLaws.{kept_all, kept_fewer, kept-none}
 use Rattle.leases.proofs.places.kept.Given as goal
 
 abbrev pub invariant-loop-left : goal.invariant-loop-left

@@ -2,7 +2,6 @@
 use Rattle.requests.specs.Forms.{writes_in}
 use Rattle.stretches.specs.List.{rows_from}
 use Rattle.listed_slot.proofs.FollowingLaws.{cut-some, cut-none}
-use borrow.Author.Rules.{rules}
 use Rattle.listed_slot.proofs.following.follow.Goals as goal
 
 pub returns-then-cut : goal.returns-then-cut

@@ -3,14 +3,11 @@
 use mathlib.Core.Path.{ap}
 use Prim.Native.Nat.{ℕ}
 use native.Mathlib.Omega.{arith}
-use borrow.Author.Rules.{rules}
 use Rattle.octets.specs.Facts.{Octets}
-use Rattle.rules.specs.Requests.{writes_from}
-use Rattle.stretches.specs.List.{rows_from}
 use Rattle.requests.specs.declared.cursors.Entry.{Entry}
 use Rattle.requests.proofs.CursorLaws.{entry_resolved}
 use Rattle.writes.proofs.TableLaws.{Rest, rest_start, rest_fits, Taken, entry_bounds}
-use Rattle.listed_slot.proofs.FollowingLaws.{Following, following_start, following_next, following_end}
+use Rattle.listed_slot.proofs.FollowingLaws.{following_start, following_next, following_end}
 use Rattle.listed_slot.proofs.following.follow_writes.Goals as goal
 
 pub loop-left-init : goal.loop-left-init

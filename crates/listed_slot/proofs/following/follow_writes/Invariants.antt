@@ -1,16 +1,10 @@
 -- The invariant: what is left of the table makes of the rows so far what the whole table makes of the first rows.
 -- The loop has no place of the new bytes: it holds for each.
-use mathlib.Core.Path.{ap}
 use Prim.Native.Nat.{ℕ}
-use native.Mathlib.Omega.{arith}
-use borrow.Author.Rules.{rules}
-use Rattle.octets.specs.Facts.{Octets}
 use Rattle.rules.specs.Requests.{writes_from}
 use Rattle.stretches.specs.List.{rows_from}
-use Rattle.requests.specs.declared.cursors.Entry.{Entry}
-use Rattle.requests.proofs.CursorLaws.{entry_resolved}
-use Rattle.writes.proofs.TableLaws.{Rest, rest_start, rest_fits, Taken, entry_bounds}
-use Rattle.listed_slot.proofs.FollowingLaws.{Following, following_start, following_next, following_end}
+use Rattle.writes.proofs.TableLaws.{Rest}
+use Rattle.listed_slot.proofs.FollowingLaws.{Following}
 use Rattle.listed_slot.proofs.following.follow_writes.Given as goal
 
 abbrev pub invariant-loop-left : goal.invariant-loop-left

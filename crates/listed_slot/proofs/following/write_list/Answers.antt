@@ -2,7 +2,6 @@
 use mathlib.Core.Path.{refl, ap, ◌∙◌}
 use Rattle.stretches.specs.List.{list_bytes}
 use Rattle.listed_slot.proofs.FollowingLaws.{few_listed, loaded, held_few, held-many}
-use borrow.Author.Rules.{rules}
 use Rattle.listed_slot.proofs.following.write_list.Goals as goal
 
 pub load-n-requires : goal.load-n-requires

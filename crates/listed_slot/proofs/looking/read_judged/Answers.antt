@@ -1,13 +1,11 @@
 -- The list first, then the request.
 use mathlib.Core.Path.{◌≡◌, refl, sym, ap, ◌∙◌}
 use native.Mathlib.Omega.{arith}
-use borrow.Author.Tests.{not-true, not-false}
 use Rattle.format.specs.Layout.{data_of}
 use Rattle.format.proofs.KnownLaws.{known_room, data_lent_lem}
 use Rattle.container.specs.Looking.{read_of}
 use Rattle.stretches.specs.List.{list_ok}
 use Rattle.listed_slot.proofs.ServingLaws.{still_read, bad_list_lem, still_served}
-use borrow.Author.Rules.{rules}
 use Rattle.listed_slot.proofs.looking.read_judged.Goals as goal
 
 pub data_end-to-requires : goal.data_end-to-requires

@@ -6,7 +6,6 @@ use Rattle.format.proofs.JudgingLaws.{judged_formed, judged-malformed, judged-le
 use Rattle.rules.proofs.RefusalLaws.{bad_length, malformed}
 use Rattle.container.specs.Looking.{read_of}
 use Rattle.listed_slot.proofs.ServingLaws.{malformed-length, malformed_served}
-use borrow.Author.Rules.{rules}
 use Rattle.listed_slot.proofs.looking.read_only.Goals as goal
 
 pub read_judged-requires : goal.read_judged-requires

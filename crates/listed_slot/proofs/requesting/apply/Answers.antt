@@ -5,7 +5,6 @@ use Rattle.format.specs.Judging.{Judges}
 use Rattle.format.proofs.JudgingLaws.{judged_formed, judged-malformed, judged-length}
 use Rattle.rules.proofs.RefusalLaws.{bad_length, malformed}
 use Rattle.listed_slot.proofs.ServingLaws.{malformed-length, malformed_served}
-use borrow.Author.Rules.{rules}
 use Rattle.listed_slot.proofs.requesting.apply.Goals as goal
 
 pub apply_judged-requires : goal.apply_judged-requires

@@ -1,13 +1,11 @@
 -- The list first; then a test-and-write goes by way of it, and any other request past it.
 use mathlib.Core.Path.{◌≡◌, sym, ap, subst, ◌∙◌}
 use native.Mathlib.Omega.{arith}
-use borrow.Author.Tests.{not-true, not-false}
 use Rattle.format.specs.Layout.{data_of}
 use Rattle.format.proofs.KnownLaws.{known_room, data_lent_lem}
 use Rattle.requests.specs.Forms.{Takes}
 use Rattle.stretches.specs.List.{list_ok}
 use Rattle.listed_slot.proofs.ServingLaws.{Still, still_form, bad_list_lem, still_served}
-use borrow.Author.Rules.{rules}
 use Rattle.listed_slot.proofs.requesting.apply_judged.Goals as goal
 
 pub data_end-to-requires : goal.data_end-to-requires

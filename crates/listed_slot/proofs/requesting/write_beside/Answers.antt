@@ -1,9 +1,7 @@
 -- The verdict first; where it is 0 the rows decide, and nothing else does.
 use mathlib.Core.Path.{sym, ◌∙◌}
-use borrow.Author.Tests.{not-true, not-false}
 use Rattle.writing.proofs.WriteRequestLaws.{Writing, number_is}
 use Rattle.listed_slot.proofs.ServingLaws.{refused_served, list_storable, many-refused, list_written}
-use borrow.Author.Rules.{rules}
 use Rattle.listed_slot.proofs.requesting.write_beside.Goals as goal
 
 pub returns-then-number-ne0 : goal.returns-then-number-ne0

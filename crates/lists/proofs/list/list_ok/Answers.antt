@@ -1,14 +1,8 @@
 use mathlib.Core.Path.{◌∙◌}
 use Prim.Native.Nat.{◌+◌, ◌*◌, ◌-◌}
 use native.Mathlib.Omega.{arith}
-use borrow.Author.Tests.{not-true, not-false}
 use Rattle.stretches.specs.List.{rows_at, row_size}
 use Rattle.lists.proofs.JudgeLaws.{ok_length, ok_count, ok_rest, ok_rows}
-use borrow.Author.Rules.{rules}
-use Rattle.lists.proofs.list.list_ok.Reads as reads
-use Rattle.lists.proofs.list.rows_ok.Reads as rows-ok-reads
-use Rattle.octets.proofs.numbers.u32_at.Reads as u32-at-reads
-use Rattle.octets.proofs.strings.all_zero.Reads as all-zero-reads
 use Rattle.lists.proofs.list.list_ok.Goals as goal
 
 -- src/list.rt:64:9

@@ -4,10 +4,6 @@ use mathlib.Core.List.{List}
 use native.Mathlib.Omega.{arith}
 use Rattle.stretches.specs.List.{row_count, rows_from}
 use Rattle.lists.proofs.StoreLaws.{load_rows}
-use borrow.Author.Rules.{rules}
-use Rattle.lists.proofs.list.load.Reads as reads
-use Rattle.octets.proofs.moves.copy_part.Reads as copy-part-reads
-use Rattle.octets.proofs.numbers.u32_at.Reads as u32-at-reads
 use Rattle.lists.proofs.list.load.Goals as goal
 
 -- src/list.rt:78:1

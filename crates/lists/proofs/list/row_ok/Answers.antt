@@ -1,9 +1,6 @@
 use mathlib.Core.Path.{sym, ◌∙◌}
 use native.Mathlib.Omega.{arith}
 use Rattle.lists.proofs.JudgeLaws.{span_low, span_empty, span_out, span_rest}
-use borrow.Author.Rules.{rules}
-use Rattle.lists.proofs.list.row_ok.Reads as reads
-use Rattle.octets.proofs.strings.all_zero.Reads as all-zero-reads
 use Rattle.lists.proofs.list.row_ok.Goals as goal
 
 -- src/list.rt:29:9

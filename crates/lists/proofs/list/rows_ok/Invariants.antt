@@ -1,12 +1,7 @@
-use mathlib.Core.Path.{◌≡◌, sym, ◌∙◌}
+use mathlib.Core.Path.{◌≡◌}
 use Prim.Native.Nat.{◌*◌, ◌-◌, ◌≤◌}
-use native.Mathlib.Omega.{arith}
-use borrow.Author.Tests.{not-true, not-false}
 use Rattle.stretches.specs.List.{row_size, rows_from}
-use Rattle.lists.proofs.JudgeLaws.{rows_good, span_inside, good_start, good_fails, good_turn, good_end}
-use Rattle.lists.proofs.list.rows_ok.Reads as reads
-use Rattle.lists.proofs.list.row_ok.Reads as row-ok-reads
-use Rattle.lists.proofs.rows.row_at.Reads as row-at-reads
+use Rattle.lists.proofs.JudgeLaws.{rows_good}
 use Rattle.lists.proofs.list.rows_ok.Given as goal
 
 abbrev pub invariant-loop-i : goal.invariant-loop-i

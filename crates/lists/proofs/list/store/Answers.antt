@@ -2,11 +2,6 @@ use Prim.Native.Nat.{◌*◌, ◌-◌}
 use native.Mathlib.Omega.{arith}
 use Rattle.stretches.specs.List.{row_size}
 use Rattle.lists.proofs.StoreLaws.{store_list}
-use borrow.Author.Rules.{rules}
-use Rattle.lists.proofs.list.store.Reads as reads
-use Rattle.octets.proofs.moves.clear_part.Reads as clear-part-reads
-use Rattle.octets.proofs.moves.copy_part.Reads as copy-part-reads
-use Rattle.octets.proofs.numbers.put_u32.Reads as put-u32-reads
 use Rattle.lists.proofs.list.store.Goals as goal
 
 -- src/list.rt:90:1

@@ -1,10 +1,8 @@
 -- The last row ends at the size or not, or there is none. Assumes nothing.
-use mathlib.Core.Logic.{⊎_elim}
 use Prim.Native.Nat.{◌-◌}
 use native.Mathlib.Omega.{arith}
 use Rattle.lists.proofs.TableLaws.{push_is}
 use Rattle.lists.proofs.GapLaws.{gap_alone, gap_touch, gap_apart}
-use borrow.Author.Rules.{rules}
 use Rattle.lists.proofs.rows.add_gap.Goals as goal
 use Rattle.lists.proofs.rows.add_gap.Goals.{then-n-gt0+else-last-size, else-n-gt0}
 

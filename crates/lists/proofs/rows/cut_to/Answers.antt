@@ -4,7 +4,6 @@ use Rattle.stretches.specs.Stretches.{below, above}
 use Rattle.stretches.specs.List.{rows_from}
 use Rattle.lists.proofs.TableLaws.{holds_too}
 use Rattle.lists.proofs.GapLaws.{cut_is}
-use borrow.Author.Rules.{rules}
 use Rattle.lists.proofs.rows.cut_to.Goals as goal
 
 pub returns : goal.returns

@@ -5,7 +5,6 @@ use native.Mathlib.Omega.{arith}
 use Rattle.octets.specs.Moves.{put}
 use Rattle.octets.specs.Numbers.{digits}
 use Rattle.lists.proofs.TableLaws.{push_none, push_some}
-use borrow.Author.Rules.{rules}
 use Rattle.lists.proofs.rows.push.Goals as goal
 
 pub returns-then-to-from : goal.returns-then-to-from

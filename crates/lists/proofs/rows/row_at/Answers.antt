@@ -1,8 +1,5 @@
 use mathlib.Core.Path.{ap₂}
 use Prim.Native.Nat.{ℕ, ◌+◌}
-use borrow.Author.Rules.{rules}
-use Rattle.lists.proofs.rows.row_at.Reads as reads
-use Rattle.octets.proofs.numbers.u32_at.Reads as u32-at-reads
 use Rattle.lists.proofs.rows.row_at.Goals as goal
 
 -- src/rows.rt:26:1

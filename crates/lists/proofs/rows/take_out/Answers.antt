@@ -1,9 +1,8 @@
 -- The invariant: what is kept, what is held back and what the rows left name outside of a up to e are the whole.
 -- Assumes nothing.
-use Prim.Native.Nat.{◌-◌}
 use native.Mathlib.Omega.{arith}
 use Rattle.octets.proofs.ChoiceLaws.{least_is, most_is}
-use Rattle.lists.proofs.TakingLaws.{Taking, taking_start, turn_asks, taking_turn, taking_end}
+use Rattle.lists.proofs.TakingLaws.{taking_start, turn_asks, taking_turn, taking_end}
 use Rattle.lists.proofs.rows.take_out.Goals as goal
 
 pub loop-i-init : goal.loop-i-init

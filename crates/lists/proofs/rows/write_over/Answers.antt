@@ -7,7 +7,6 @@ use Rattle.stretches.specs.Stretches.{below, above, joined}
 use Rattle.stretches.specs.List.{rows_from}
 use Rattle.lists.proofs.TableLaws.{holds_too}
 use Rattle.lists.proofs.GapLaws.{written_none, written_behind, written_inside}
-use borrow.Author.Rules.{rules}
 use Rattle.lists.proofs.rows.write_over.Goals as goal
 
 pub returns-then-count-eq0 : goal.returns-then-count-eq0

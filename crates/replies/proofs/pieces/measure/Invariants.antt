@@ -1,15 +1,5 @@
 -- What is left of the table, with what has been measured, is the whole.
-use native.Mathlib.Omega.{arith}
-use Prim.Native.Nat.{◌+◌, ◌*◌, ◌≤◌}
-use borrow.Author.Rules.{rules}
-use lib.ListN.{length}
-use Rattle.octets.specs.Facts.{Octets}
-use Rattle.format.specs.Layout.{limit}
-use Rattle.rules.specs.Requests.{entry_limit}
-use Rattle.rules.specs.Testing.{length_size}
-use Rattle.replies.proofs.PieceLaws.{Measuring, Reading, measuring_end, measuring_next, measuring_start}
-use Rattle.replies.proofs.PieceLaws.{measuring_bound, reading}
-use Rattle.requests.proofs.FormLaws.{times_next}
+use Rattle.replies.proofs.PieceLaws.{Measuring}
 use Rattle.replies.proofs.pieces.measure.Given as goal
 
 abbrev pub invariant-loop-left : goal.invariant-loop-left

@@ -5,7 +5,6 @@ use lib.ListN.{length, drop, drop_of_length-le, length-drop}
 use lib.Seq.{take-nil, take_all}
 use Rattle.octets.proofs.StringLaws.{tail_is}
 use native.Mathlib.Omega.{arith}
-use borrow.Author.Rules.{rules}
 use Rattle.replies.proofs.pieces.piece.Goals as goal
 
 pub returns-then-size-position : goal.returns-then-size-position

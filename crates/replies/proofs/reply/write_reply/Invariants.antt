@@ -1,11 +1,5 @@
 -- What is left of the table, put into the present reply space, is the whole reply, put into the first.
-use native.Mathlib.Omega.{arith}
-use Prim.Native.Nat.{◌+◌, ◌≤◌}
-use borrow.Author.Rules.{rules}
-use lib.ListN.{length}
-use Rattle.replies.proofs.PieceLaws.{Writing, Reading, part_short, writing_end, writing-next, writing_room}
-use Rattle.replies.proofs.PieceLaws.{writing_start, reading}
-use Rattle.requests.proofs.FormLaws.{times_next}
+use Rattle.replies.proofs.PieceLaws.{Writing}
 use Rattle.replies.proofs.reply.write_reply.Given as goal
 
 abbrev pub invariant-loop-left : goal.invariant-loop-left

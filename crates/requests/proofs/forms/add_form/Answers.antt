@@ -5,7 +5,6 @@ use Rattle.octets.specs.Numbers.{number_at}
 use Rattle.requests.specs.Cursors.{record_at}
 use Rattle.requests.proofs.FormLaws.{add-length, add_unowned, add_taken}
 use Rattle.requests.specs.declared.cursors.Record.{Record}
-use borrow.Author.Rules.{rules}
 use Rattle.requests.proofs.forms.add_form.Goals as goal
 
 pub returns-then-q : goal.returns-then-q

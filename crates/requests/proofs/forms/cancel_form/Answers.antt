@@ -1,6 +1,5 @@
 -- By the length.
 use Rattle.requests.proofs.FormLaws.{cancel-length, cancel_taken}
-use borrow.Author.Rules.{rules}
 use Rattle.requests.proofs.forms.cancel_form.Goals as goal
 
 pub returns-then-q : goal.returns-then-q

@@ -6,7 +6,6 @@ use lib.ListN.{get_or}
 use Rattle.requests.specs.Cursors.{byte_at}
 use Rattle.requests.specs.declared.cursors.Byte.{Byte}
 use Rattle.requests.proofs.FormLaws.{by_kind_lem, too_long, unknown_kind, empty_kind}
-use borrow.Author.Rules.{rules}
 use Rattle.requests.proofs.forms.form_of.Goals as goal
 
 pub returns-then-q-eq0 : goal.returns-then-q-eq0

@@ -2,14 +2,12 @@
 use mathlib.Core.Path.{◌≡◌, ap, ◌∙◌}
 use mathlib.Core.Bool.{Bool, ◌&&◌}
 use native.Mathlib.Omega.{arith}
-use Prim.Native.Nat.{◌+◌, ◌*◌, ◌≤◌}
-use lib.ListN.{length}
-use Rattle.rules.specs.Requests.{entry_limit, test_size, test_entry_ok}
-use Rattle.requests.proofs.FormLaws.{Testing, testing_start, testing_next, testing_end, test_entry_ok_lem}
+use Prim.Native.Nat.{◌+◌}
+use Rattle.rules.specs.Requests.{test_size, test_entry_ok}
+use Rattle.requests.proofs.FormLaws.{testing_start, testing_next, testing_end, test_entry_ok_lem}
 use Rattle.requests.proofs.FormLaws.{times_next, specimens_most, testing_bound}
 use Rattle.rules.specs.Requests.{entry_ok}
 use Rattle.requests.specs.declared.cursors.TestEntry.{TestEntry}
-use borrow.Author.Rules.{rules}
 use Rattle.requests.proofs.forms.pass_tests.Goals as goal
 
 pub loop-left-init : goal.loop-left-init

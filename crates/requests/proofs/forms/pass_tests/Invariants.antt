@@ -1,15 +1,8 @@
 -- The invariant: what is left of the table, with what has been found, is the whole.
-use mathlib.Core.Path.{◌≡◌, ap, ◌∙◌}
-use mathlib.Core.Bool.{Bool, ◌&&◌}
-use native.Mathlib.Omega.{arith}
 use Prim.Native.Nat.{◌+◌, ◌*◌, ◌≤◌}
 use lib.ListN.{length}
-use Rattle.rules.specs.Requests.{entry_limit, test_size, test_entry_ok}
-use Rattle.requests.proofs.FormLaws.{Testing, testing_start, testing_next, testing_end, test_entry_ok_lem}
-use Rattle.requests.proofs.FormLaws.{times_next, specimens_most, testing_bound}
-use Rattle.rules.specs.Requests.{entry_ok}
-use Rattle.requests.specs.declared.cursors.TestEntry.{TestEntry}
-use borrow.Author.Rules.{rules}
+use Rattle.rules.specs.Requests.{entry_limit, test_size}
+use Rattle.requests.proofs.FormLaws.{Testing}
 use Rattle.requests.proofs.forms.pass_tests.Given as goal
 
 abbrev pub invariant-loop-left : goal.invariant-loop-left

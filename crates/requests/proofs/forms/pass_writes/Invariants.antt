@@ -1,12 +1,8 @@
 -- The invariant: what is left of the table, with what has been found, is the whole.
-use mathlib.Core.Path.{◌≡◌, ap}
-use native.Mathlib.Omega.{arith}
 use Prim.Native.Nat.{◌+◌, ◌*◌, ◌≤◌}
 use lib.ListN.{length}
 use Rattle.rules.specs.Requests.{entry_limit, entry_size}
-use Rattle.requests.proofs.FormLaws.{Adding, adding_start, adding_next, adding_end, times_next, bodies_most}
-use Rattle.requests.specs.declared.cursors.Entry.{Entry}
-use borrow.Author.Rules.{rules}
+use Rattle.requests.proofs.FormLaws.{Adding}
 use Rattle.requests.proofs.forms.pass_writes.Given as goal
 
 abbrev pub invariant-loop-left : goal.invariant-loop-left

@@ -2,7 +2,6 @@
 use mathlib.Core.Path.{sym, ◌∙◌}
 use native.Mathlib.Omega.{arith}
 use Rattle.requests.proofs.FormLaws.{ReadHeaderIs, read_header_is, no_read, read_taken}
-use borrow.Author.Rules.{rules}
 use Rattle.requests.proofs.forms.read_form.Goals as goal
 
 pub returns-then-n-lt-READS_AT : goal.returns-then-n-lt-READS_AT

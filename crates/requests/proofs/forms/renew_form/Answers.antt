@@ -8,7 +8,6 @@ use Rattle.requests.specs.Cursors.{body_at}
 use Rattle.requests.proofs.FormLaws.{renew-length, renew_taken}
 use Rattle.requests.specs.declared.cursors.Body.{Body}
 use Rattle.requests.specs.declared.cursors.Number.{Number}
-use borrow.Author.Rules.{rules}
 use Rattle.requests.proofs.forms.renew_form.Goals as goal
 
 pub returns-then-q : goal.returns-then-q

@@ -13,7 +13,6 @@ use Rattle.requests.specs.declared.forms.WritesPassed.{WritesPassed}
 use Rattle.requests.proofs.FormLaws.{HeaderIs, header_is, Found, no_table, table_places, specimens_most}
 use Rattle.requests.proofs.FormLaws.{bodies_most}
 use Rattle.requests.proofs.FormLaws.{tests_at_lem, writes_at_lem, specimens_at_lem, ends_at, entries_at, taken}
-use borrow.Author.Rules.{rules}
 use Rattle.requests.proofs.forms.test_write_form.Goals as goal
 
 pub returns-then-n-lt-TESTS_AT : goal.returns-then-n-lt-TESTS_AT

@@ -2,7 +2,6 @@
 use mathlib.Core.Path.{ap}
 use mathlib.Core.List.{List}
 use Prim.Native.Nat.{ℕ}
-use borrow.Author.Rules.{rules}
 use Rattle.format.specs.Layout.{node_of}
 use Rattle.rules.specs.Outcomes.{answer_of}
 use Rattle.rules.proofs.answers.enabler_differs.Goals as goal

@@ -1,7 +1,6 @@
 -- Each edition has its own.
 use mathlib.Core.Path.{◌∙◌}
 use Rattle.share_contents.specs.Contents.{blocks_ok}
-use borrow.Author.Rules.{rules}
 use Rattle.share_contents.proofs.contents.blocks_ok.Goals as goal
 
 pub segments-requires : goal.segments-requires

@@ -4,7 +4,6 @@ use Prim.Native.Nat.{◌≤◌}
 use borrow.Author.Tests.{eq-eqb, ne_eqb}
 use Rattle.share_contents.specs.Contents.{chain_ok}
 use Rattle.share_contents.proofs.NodeLaws.{depth-within, eight, sixty_two}
-use borrow.Author.Rules.{rules}
 use Rattle.share_contents.proofs.contents.chain_ok.Goals as goal
 
 pub tree_over-over-requires : goal.tree_over-over-requires

@@ -1,11 +1,10 @@
 -- Each answer is the row whose test holds once those before it are known not to.
 use mathlib.Core.Path.{◌≡◌, sym, ◌∙◌}
 use mathlib.Core.Bool.{true}
-use borrow.Author.Tests.{eq-eqb, ne_eqb, not-true, not-false}
+use borrow.Author.Tests.{eq-eqb, ne_eqb}
 use Rattle.octets.specs.Rows.{first_row}
 use Rattle.share_contents.specs.Contents.{chain_ok, tree_ok, blocks_ok, content_rows}
 use Rattle.share_numbers.proofs.CodingLaws.{segment_some}
-use borrow.Author.Rules.{rules}
 use Rattle.share_contents.proofs.contents.content_outcome.Goals as goal
 
 pub returns-then-not-chain_ok : goal.returns-then-not-chain_ok

@@ -4,7 +4,6 @@ use native.Mathlib.Omega.{arith}
 use mathlib.Core.Path.{sym}
 use native.Mathlib.Nat.{div-add-mod', mul-le-mul_left, mul-one}
 use Rattle.share_contents.proofs.ContentLaws.{rounded_whole, rounded_more}
-use borrow.Author.Rules.{rules}
 use Rattle.share_contents.proofs.contents.rounded_up.Goals as goal
 
 pub overflow_add-result : goal.overflow_add-result

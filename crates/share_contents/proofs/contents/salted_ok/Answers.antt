@@ -1,7 +1,6 @@
 -- The salts are taken off.
 use mathlib.Core.Path.{sym}
 use Rattle.share_contents.proofs.ContentLaws.{salts_few, salts_off}
-use borrow.Author.Rules.{rules}
 use Rattle.share_contents.proofs.contents.salted_ok.Goals as goal
 
 pub returns-then-size-salt : goal.returns-then-size-salt

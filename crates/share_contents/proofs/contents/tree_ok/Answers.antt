@@ -1,5 +1,4 @@
 -- Each edition has its own.
-use borrow.Author.Rules.{rules}
 use mathlib.Core.Path.{◌∙◌}
 use Rattle.share_contents.specs.Contents.{tree_ok}
 use Rattle.share_contents.proofs.contents.tree_ok.Goals as goal

@@ -1,9 +1,6 @@
 -- As in `occurs`; a turn settles the first of the numbers that are left.
-use mathlib.Core.Path.{◌≡◌, refl, sym, ◌∙◌}
-use Prim.Native.Nat.{◌≤◌, ◌+◌, ◌*◌}
+use mathlib.Core.Path.{refl, sym, ◌∙◌}
 use native.Mathlib.Omega.{arith}
-use lib.ListN.{length}
-use Rattle.share_contents.specs.Nodes.{chain_entry_size, nodes_from, nodes_ok}
 use Rattle.share_contents.proofs.NodeLaws.{nodes-high, nodes_again, nodes_more, nodes-end}
 use Rattle.share_contents.proofs.nodes.nodes_ok.Goals as goal
 

@@ -1,10 +1,8 @@
 -- As in `occurs`; a turn settles the first of the numbers that are left.
-use mathlib.Core.Path.{◌≡◌, refl, sym, ◌∙◌}
+use mathlib.Core.Path.{◌≡◌}
 use Prim.Native.Nat.{◌≤◌, ◌+◌, ◌*◌}
-use native.Mathlib.Omega.{arith}
 use lib.ListN.{length}
 use Rattle.share_contents.specs.Nodes.{chain_entry_size, nodes_from, nodes_ok}
-use Rattle.share_contents.proofs.NodeLaws.{nodes-high, nodes_again, nodes_more, nodes-end}
 use Rattle.share_contents.proofs.nodes.nodes_ok.Given as goal
 
 abbrev pub invariant-loop-left : goal.invariant-loop-left

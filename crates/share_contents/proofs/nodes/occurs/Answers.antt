@@ -1,12 +1,7 @@
 -- What the node numbers from the first on say is what those that are left say; the measure is how many are left.
-use lib.Dec.{eqb}
-use mathlib.Core.Path.{◌≡◌, refl, sym, ◌∙◌}
-use Prim.Native.Nat.{◌≤◌, ◌+◌, ◌*◌}
+use mathlib.Core.Path.{refl, sym, ◌∙◌}
 use native.Mathlib.Omega.{arith}
-use lib.ListN.{length}
-use Rattle.share_contents.specs.Nodes.{chain_entry_size, nodes_from}
 use Rattle.share_contents.proofs.NodeLaws.{occurs_hit, occurs_miss, occurs_none}
-use Rattle.octets.specs.Lists.{any_of}
 use Rattle.share_contents.proofs.nodes.occurs.Goals as goal
 
 pub loop-left-init : goal.loop-left-init

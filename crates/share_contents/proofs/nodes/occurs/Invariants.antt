@@ -1,11 +1,9 @@
 -- What the node numbers from the first on say is what those that are left say; the measure is how many are left.
 use lib.Dec.{eqb}
-use mathlib.Core.Path.{◌≡◌, refl, sym, ◌∙◌}
+use mathlib.Core.Path.{◌≡◌}
 use Prim.Native.Nat.{◌≤◌, ◌+◌, ◌*◌}
-use native.Mathlib.Omega.{arith}
 use lib.ListN.{length}
 use Rattle.share_contents.specs.Nodes.{chain_entry_size, nodes_from}
-use Rattle.share_contents.proofs.NodeLaws.{occurs_hit, occurs_miss, occurs_none}
 use Rattle.octets.specs.Lists.{any_of}
 use Rattle.share_contents.proofs.nodes.occurs.Given as goal
 

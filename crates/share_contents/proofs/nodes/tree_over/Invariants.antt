@@ -1,10 +1,8 @@
 -- The leaves are 2^depth, and the definition has as many steps left as the depth lacks of n.
 -- The measure is what the leaves lack of n.
-use mathlib.Core.Path.{◌≡◌, refl, sym, ap, ◌∙◌}
-use Prim.Native.Nat.{ℕ, ◌*◌, ◌≤◌, ◌-◌}
-use native.Mathlib.Omega.{arith}
+use mathlib.Core.Path.{◌≡◌}
+use Prim.Native.Nat.{◌≤◌, ◌-◌}
 use Rattle.share_contents.specs.Nodes.{depth_from, depth, power}
-use Rattle.share_contents.proofs.NodeLaws.{power_next, power-above, depth_stop, depth_turn, sixty_two}
 use Rattle.share_contents.proofs.nodes.tree_over.Given as goal
 
 abbrev pub invariant-loop-leaves : goal.invariant-loop-leaves

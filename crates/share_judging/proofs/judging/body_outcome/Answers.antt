@@ -1,13 +1,12 @@
 -- Boundaries that are not in order, or do not end with the share, give 25; else the parts may be taken.
 use mathlib.Core.Path.{◌≡◌, sym, ◌∙◌}
 use mathlib.Core.Bool.{true}
-use borrow.Author.Tests.{eq-eqb, ne_eqb, not-true, not-false}
+use borrow.Author.Tests.{eq-eqb, ne_eqb}
 use Rattle.octets.specs.Rows.{first_row}
 use Rattle.share_format.specs.Header.{bounds_of}
 use Rattle.share_numbers.specs.Order.{placed_ok}
 use Rattle.share_judging.specs.Judging.{ordered, body_rows}
 use Rattle.share_numbers.proofs.OrderLaws.{placed-inside}
-use borrow.Author.Rules.{rules}
 use Rattle.share_judging.proofs.judging.body_outcome.Goals as goal
 
 pub returns-then-not-placed_ok : goal.returns-then-not-placed_ok

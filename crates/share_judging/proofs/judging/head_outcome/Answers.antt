@@ -4,13 +4,12 @@ use mathlib.Core.Bool.{true, false}
 use native.Mathlib.Omega.{arith}
 use lib.Dec.{ltb}
 use lib.ListN.{length}
-use borrow.Author.Tests.{lt-ltb, le-ltb, not-true, not-false}
+use borrow.Author.Tests.{lt-ltb, le-ltb}
 use Rattle.octets.specs.Rows.{first_row}
 use Rattle.share_format.specs.Header.{header_size, version, required, total}
 use Rattle.share_numbers.specs.Coding.{coding_ok}
 use Rattle.share_judging.specs.Judging.{head_rows}
 use Rattle.share_numbers.proofs.CodingLaws.{coding_facts}
-use borrow.Author.Rules.{rules}
 use Rattle.share_judging.proofs.judging.head_outcome.Goals as goal
 
 pub returns-then-s-size : goal.returns-then-s-size

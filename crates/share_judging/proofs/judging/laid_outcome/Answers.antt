@@ -8,7 +8,6 @@ use Rattle.share_format.specs.Facts.{PartInside, PartsInside}
 use Rattle.share_format.specs.Header.{Edition}
 use Rattle.share_format.specs.Parts.{chain_part, tree_part, share_data_part}
 use Rattle.share_judging.specs.Judging.{laid_rows}
-use borrow.Author.Rules.{rules}
 use Rattle.share_judging.proofs.judging.laid_outcome.Goals as goal
 
 -- Each of the three is one of seven parts.

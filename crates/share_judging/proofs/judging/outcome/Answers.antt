@@ -4,7 +4,6 @@ use Rattle.octets.specs.Rows.{first_row}
 use Rattle.share_format.specs.Header.{edition_of}
 use Rattle.share_judging.specs.Judging.{head_rows}
 use Rattle.share_judging.proofs.JudgingLaws.{outcome-head, outcome_body, head_facts}
-use borrow.Author.Rules.{rules}
 use Rattle.share_judging.proofs.judging.outcome.Goals as goal
 
 pub returns-then-head-ne0 : goal.returns-then-head-ne0

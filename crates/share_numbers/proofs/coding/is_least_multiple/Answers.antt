@@ -4,7 +4,6 @@ use native.Mathlib.Omega.{arith}
 use borrow.Author.Tests.{ne_eqb}
 use Rattle.share_format.specs.Parts.{least_multiple}
 use Rattle.share_format.proofs.HeaderLaws.{past_64}
-use borrow.Author.Rules.{rules}
 use Rattle.share_numbers.proofs.coding.is_least_multiple.Goals as goal
 
 pub returns-then-multiple : goal.returns-then-multiple

@@ -5,7 +5,6 @@ use native.Mathlib.Nat.{mod-lt}
 use native.Mathlib.Omega.{arith}
 use Rattle.share_format.proofs.HeaderLaws.{fits_64, exceeds_64}
 use Rattle.share_format.proofs.MultipleLaws.{least_whole, least_more}
-use borrow.Author.Rules.{rules}
 use Rattle.share_numbers.proofs.coding.least_multiple.Goals as goal
 
 pub returns-then-rem-eq0 : goal.returns-then-rem-eq0

@@ -1,9 +1,8 @@
 -- The definition, case by case.
 use mathlib.Core.Path.{◌∙◌}
-use borrow.Author.Tests.{eq-eqb, ne_eqb, not-true, not-false}
+use borrow.Author.Tests.{eq-eqb, ne_eqb}
 use Rattle.share_numbers.specs.Coding.{segment_ok}
 use Rattle.share_numbers.proofs.CodingLaws.{segment_none}
-use borrow.Author.Rules.{rules}
 use Rattle.share_numbers.proofs.coding.segment_ok.Goals as goal
 
 pub returns-then-not-mdmf : goal.returns-then-not-mdmf

@@ -2,7 +2,6 @@
 use mathlib.Core.Bool.{true, false}
 use mathlib.Core.Path.{sym, ◌∙◌}
 use Rattle.share_numbers.proofs.OrderLaws.{placed-false, placed_rest}
-use borrow.Author.Rules.{rules}
 use Rattle.share_numbers.proofs.order.placed_ok.Goals as goal
 
 pub returns-then-bounds-size : goal.returns-then-bounds-size

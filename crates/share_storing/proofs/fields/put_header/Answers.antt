@@ -8,7 +8,6 @@ use Rattle.octets.specs.Strings.{join}
 use Rattle.octets.proofs.MoveLaws.{put-put}
 use Rattle.share_format.specs.Header.{offsets_at, number_fields, offset_fields}
 use Rattle.share_format.proofs.HeaderLaws.{length-numbers}
-use borrow.Author.Rules.{rules}
 use Rattle.share_storing.proofs.fields.put_header.Goals as goal
 
 pub returns : goal.returns

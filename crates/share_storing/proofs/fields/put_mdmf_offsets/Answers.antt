@@ -4,7 +4,6 @@ use native.Mathlib.Omega.{arith}
 use Rattle.octets.proofs.MoveLaws.{stored_none, stored_more}
 use Rattle.octets.proofs.NumberLaws.{length_digits}
 use Rattle.share_format.specs.Header.{offsets_at, far_offset_size, digits_of, told_of, offset_fields}
-use borrow.Author.Rules.{rules}
 use Rattle.share_storing.proofs.fields.put_mdmf_offsets.Goals as goal
 
 pub returns : goal.returns

@@ -6,7 +6,6 @@ use Rattle.octets.proofs.MoveLaws.{stored_none, stored_more, stored_at}
 use lib.ListN.{length}
 use Rattle.octets.proofs.NumberLaws.{length_digits}
 use Rattle.share_format.specs.Header.{iv_at, number_size, hash_size, number_fields}
-use borrow.Author.Rules.{rules}
 use Rattle.share_storing.proofs.fields.put_numbers.Goals as goal
 
 pub overflow_add-at-4 : goal.overflow_add-at-4

@@ -1,6 +1,5 @@
 -- Each edition has its own.
 use mathlib.Core.Path.{◌∙◌}
-use borrow.Author.Rules.{rules}
 use Rattle.share_storing.proofs.fields.put_offsets.Goals as goal
 
 pub put_mdmf_offsets-requires : goal.put_mdmf_offsets-requires

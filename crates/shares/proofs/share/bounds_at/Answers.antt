@@ -6,7 +6,6 @@ use native.Mathlib.Omega.{arith}
 use lib.ListN.{get_or}
 use Rattle.shares.specs.Share.{bounds_at}
 use Rattle.shares.proofs.ShareLaws.{bound_below, moved_listed}
-use borrow.Author.Rules.{rules}
 use Rattle.shares.proofs.share.bounds_at.Goals as goal
 
 pub overflow_add-result : goal.overflow_add-result

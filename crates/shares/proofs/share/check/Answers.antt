@@ -1,6 +1,5 @@
 -- A bare share begins at byte 0.
 use Rattle.shares.specs.Share.{checked_of}
-use borrow.Author.Rules.{rules}
 use Rattle.shares.proofs.share.check.Goals as goal
 
 pub returns : goal.returns

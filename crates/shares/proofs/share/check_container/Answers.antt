@@ -3,7 +3,6 @@ use mathlib.Core.Path.{◌∙◌}
 use native.Mathlib.Omega.{arith}
 use Rattle.container.proofs.DataLaws.{lent-inside}
 use Rattle.shares.proofs.ShareLaws.{lent-refused, lent_checked}
-use borrow.Author.Rules.{rules}
 use Rattle.shares.proofs.share.check_container.Goals as goal
 
 pub returns-then-lent-ne0 : goal.returns-then-lent-ne0

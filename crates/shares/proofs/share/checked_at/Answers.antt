@@ -3,7 +3,6 @@ use mathlib.Core.Path.{sym, ap, ◌∙◌}
 use Rattle.share_judging.proofs.JudgingLaws.{head_facts, outcome-ordered}
 use Rattle.share_format.specs.Header.{version_of}
 use Rattle.shares.proofs.ShareLaws.{checked_refused, checked_zero, accepted-inside}
-use borrow.Author.Rules.{rules}
 use Rattle.shares.proofs.share.checked_at.Goals as goal
 
 pub returns-then-number-ne0 : goal.returns-then-number-ne0

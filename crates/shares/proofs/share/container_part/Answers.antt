@@ -7,7 +7,6 @@ use Rattle.shares.specs.Share.{container_part, container_part_at}
 use Rattle.shares.proofs.ShareLaws.{container_inside, container_edition, numbered, below_seven}
 use Prim.Native.Nat.{◌<◌}
 use Rattle.shares.specs.declared.share.Checked.{Checked}
-use borrow.Author.Rules.{rules}
 use Rattle.shares.proofs.share.container_part.Goals as goal
 
 pub part-requires : goal.part-requires

@@ -6,7 +6,6 @@ use Rattle.shares.specs.Share.{share_part, part_at}
 use Rattle.shares.proofs.ShareLaws.{share_inside, checked_named, numbered, below_seven}
 use Prim.Native.Nat.{◌<◌}
 use Rattle.shares.specs.declared.share.Checked.{Checked}
-use borrow.Author.Rules.{rules}
 use Rattle.shares.proofs.share.part.Goals as goal
 
 pub part-requires : goal.part-requires

@@ -1,5 +1,4 @@
 -- All boundaries are 0.
-use borrow.Author.Rules.{rules}
 use Rattle.shares.proofs.share.refused.Goals as goal
 
 pub returns : goal.returns

@@ -4,7 +4,6 @@ use Rattle.format.specs.Judging.{Judges}
 use Rattle.format.proofs.JudgingLaws.{judged_formed, judged-malformed, judged-length}
 use Rattle.rules.specs.Outcomes.{answer_of, no_node}
 use Rattle.upkeep_rules.proofs.AuditLaws.{answer-length, answer-malformed, answer_narrow, answer-done}
-use borrow.Author.Rules.{rules}
 use Rattle.upkeep.proofs.auditing.audit_answer.Goals as goal
 
 pub count_leases-count-requires : goal.count_leases-count-requires

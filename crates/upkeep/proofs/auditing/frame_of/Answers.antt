@@ -4,7 +4,6 @@ use native.Mathlib.Omega.{arith}
 use Rattle.format.specs.Layout.{count_at, extras_of}
 use Rattle.format.proofs.WellFormed.{formed_facts, used_is}
 use Rattle.format.proofs.JudgingLaws.{size_read, count_read, extras-read}
-use borrow.Author.Rules.{rules}
 use Rattle.upkeep.proofs.auditing.frame_of.Goals as goal
 
 pub u64_at-offset-requires : goal.u64_at-offset-requires

@@ -1,11 +1,7 @@
 -- The invariant: the rows from `at` on are those from i on, so a lease is left, and `at` is a place. Assumes nothing.
-use mathlib.Core.Path.{◌≡◌, refl, sym, ap, ◌∙◌}
+use mathlib.Core.Path.{refl, sym, ap, ◌∙◌}
 use mathlib.Core.Bool.{not}
-use Prim.Native.Nat.{◌+◌, ◌-◌}
 use native.Mathlib.Omega.{arith}
-use lib.ListN.{drop}
-use Rattle.format.specs.Layout.{fixed_places, leases_of}
-use Rattle.upkeep_rules.specs.Auditing.{rows_of}
 use Rattle.upkeep.proofs.AuditLaws.{Reached, reached, reached_empty, reached_held}
 use Rattle.upkeep.proofs.auditing.next_lease.Goals as goal
 

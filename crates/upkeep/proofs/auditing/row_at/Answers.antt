@@ -1,6 +1,5 @@
 -- Each field is read where it stands in the buffer. Assumes nothing.
 use Rattle.upkeep.proofs.AuditLaws.{row_read}
-use borrow.Author.Rules.{rules}
 use Rattle.upkeep.proofs.auditing.row_at.Goals as goal
 
 pub returns : goal.returns

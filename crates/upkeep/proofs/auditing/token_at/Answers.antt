@@ -4,7 +4,6 @@ use Prim.Native.Nat.{ℕ, ◌+◌, ◌-◌}
 use native.Mathlib.Omega.{arith}
 use lib.ListN.{take, drop}
 use Rattle.format.specs.Layout.{secret_size}
-use borrow.Author.Rules.{rules}
 use Rattle.upkeep.proofs.auditing.token_at.Goals as goal
 
 pub returns : goal.returns

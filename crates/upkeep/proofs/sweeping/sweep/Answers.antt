@@ -3,7 +3,6 @@ use mathlib.Core.Path.{subst, ◌∙◌}
 use Rattle.format.specs.Judging.{Judges}
 use Rattle.format.proofs.JudgingLaws.{judged_formed}
 use Rattle.upkeep.proofs.SweepLaws.{sweep_done, sweep_refused}
-use borrow.Author.Rules.{rules}
 use Rattle.upkeep.proofs.sweeping.sweep.Goals as goal
 
 pub sweep_formed-left-requires : goal.sweep_formed-left-requires

@@ -1,8 +1,6 @@
 -- The place by whether it is held and when it expires. Assumes nothing.
 use mathlib.Core.Path.{sym, ◌∙◌}
 use native.Mathlib.Omega.{arith}
-use borrow.Author.Rules.{rules}
-use borrow.Author.Tests.{not-true, not-false}
 use Rattle.upkeep.proofs.SweepLaws.{emptied, lasts, stays_empty}
 use Rattle.upkeep.proofs.sweeping.sweep_place.Goals as goal
 

@@ -1,7 +1,6 @@
 -- The invariant: what is left, swept into the present bytes, is the whole, swept into the first. Assumes nothing.
 use Prim.Native.Nat.{◌+◌, ◌-◌}
 use native.Mathlib.Omega.{arith}
-use borrow.Author.Rules.{rules}
 use Rattle.format.specs.Layout.{record_size}
 use Rattle.upkeep.proofs.SweepLaws.{Sweeping, sweeping-none, sweeping_more, sweeping_all}
 use Rattle.upkeep.proofs.sweeping.sweep_places.Goals as goal

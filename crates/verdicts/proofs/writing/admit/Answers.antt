@@ -4,13 +4,11 @@ use mathlib.Core.List.{List}
 use Prim.Native.Nat.{ℕ}
 use native.Mathlib.Omega.{arith}
 use lib.ListN.{length, length-take, length-drop}
-use borrow.Author.Tests.{not-true, not-false}
 use Rattle.octets.specs.Rows.{first_row}
 use Rattle.octets.specs.Strings.{same}
 use Rattle.format.specs.Layout.{secret_size, enabler_of}
 use Rattle.requests.specs.Cursors.{bytes_from}
 use Rattle.requests.proofs.CursorLaws.{bytes-length, body_in, body_is}
-use borrow.Author.Rules.{rules}
 use Rattle.verdicts.proofs.writing.admit.Goals as goal
 
 pub returns-then-not-resolves : goal.returns-then-not-resolves

@@ -1,6 +1,5 @@
 -- A verdict of 0 has room.
 use Rattle.verdicts.proofs.VerdictLaws.{room}
-use borrow.Author.Rules.{rules}
 use Rattle.verdicts.proofs.writing.commit.Goals as goal
 
 pub rewrite-requires : goal.rewrite-requires

@@ -1,8 +1,7 @@
 -- Each exit is the first row that applies.
 use mathlib.Core.Path.{sym, ◌∙◌}
-use borrow.Author.Tests.{not-true, not-false, lt-ltb, le-ltb}
+use borrow.Author.Tests.{lt-ltb, le-ltb}
 use Rattle.octets.specs.Rows.{first_row}
-use borrow.Author.Rules.{rules}
 use Rattle.verdicts.proofs.writing.find.Goals as goal
 
 pub returns-then-space-reply : goal.returns-then-space-reply

@@ -8,7 +8,6 @@ use Rattle.format.proofs.WellFormed.{moved-below}
 use Rattle.format.proofs.KnownLaws.{lent, known_room, data_lent_lem, lent_small}
 use Rattle.verdicts.proofs.VerdictLaws.{Found, final_bound, admits, fits, admit_verdict, find_verdict}
 use Rattle.verdicts.proofs.VerdictLaws.{fit_verdict}
-use borrow.Author.Rules.{rules}
 use Rattle.verdicts.proofs.writing.verdict_of.Goals as goal
 
 pub data_end-e-requires : goal.data_end-e-requires

@@ -4,13 +4,11 @@ use mathlib.Core.List.{List}
 use Prim.Native.Nat.{ℕ, ◌-◌}
 use native.Mathlib.Omega.{arith}
 use lib.ListN.{length, take}
-use borrow.Author.Rules.{rules}
 use Rattle.octets.specs.Facts.{Octets}
-use Rattle.rules.specs.Requests.{writes_from}
 use Rattle.rules.specs.Writing.{write_at}
 use Rattle.requests.proofs.CursorLaws.{entry_resolved}
 use Rattle.requests.specs.Cursors.{body_of}
-use Rattle.writes.proofs.TableLaws.{Taken, rest_start, rest_fits, entry_bounds, entry_fits, Overlaying}
+use Rattle.writes.proofs.TableLaws.{Taken, rest_start, rest_fits, entry_bounds, entry_fits}
 use Rattle.writes.proofs.TableLaws.{overlaying_next, overlaying_end}
 use Rattle.requests.specs.declared.cursors.Entry.{Entry}
 use Rattle.requests.specs.declared.cursors.Body.{Body}

@@ -2,9 +2,7 @@
 use mathlib.Core.Path.{◌∙◌}
 use native.Mathlib.Omega.{arith}
 use lib.ListN.{length-take}
-use borrow.Author.Rules.{rules}
 use Rattle.writes.proofs.TableLaws.{write_near, write_far}
-use borrow.Author.Rules.{rules}
 use Rattle.writes.proofs.overlay.overlay_one.Goals as goal
 
 pub returns-then-d-position : goal.returns-then-d-position

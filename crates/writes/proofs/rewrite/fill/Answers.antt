@@ -8,7 +8,6 @@ use Rattle.format.proofs.ViewLaws.{formed_laid}
 use Rattle.rules.specs.Outcomes.{after}
 use Rattle.requests.specs.Forms.{cut_in}
 use Rattle.writes.proofs.Whole.{filled_whole, final_room}
-use borrow.Author.Rules.{rules}
 use Rattle.writes.proofs.rewrite.fill.Goals as goal
 
 pub write_data-requires : goal.write_data-requires

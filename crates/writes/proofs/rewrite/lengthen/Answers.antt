@@ -14,7 +14,6 @@ use Rattle.format.specs.Layout.{data_at, data_of, slack_of, moved_count}
 use Rattle.format.proofs.WellFormed.{moved_up}
 use Rattle.format.proofs.KnownLaws.{known_room}
 use Rattle.writes.proofs.Whole.{rewritten_whole, both_fit, final_room}
-use borrow.Author.Rules.{rules}
 use Rattle.writes.proofs.rewrite.lengthen.Goals as goal
 
 pub bare-z-requires : goal.bare-z-requires

@@ -1,7 +1,6 @@
 -- Both fields stand in the head.
 use Rattle.writes.specs.Rewrite.{with_fields}
 use Rattle.writes.proofs.RewriteLaws.{offset_laid}
-use borrow.Author.Rules.{rules}
 use Rattle.writes.proofs.rewrite.put_fields.Goals as goal
 
 pub returns : goal.returns

@@ -1,6 +1,5 @@
 -- The size field stands in the head.
 use Rattle.writes.proofs.RewriteLaws.{size_laid}
-use borrow.Author.Rules.{rules}
 use Rattle.writes.proofs.rewrite.put_size.Goals as goal
 
 pub returns : goal.returns

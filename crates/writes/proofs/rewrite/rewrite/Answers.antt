@@ -8,7 +8,6 @@ use Rattle.format.proofs.ViewLaws.{formed_laid}
 use Rattle.rules.specs.Outcomes.{after}
 use Rattle.requests.specs.Forms.{cut_in}
 use Rattle.writes.proofs.Whole.{filled_whole, same_head}
-use borrow.Author.Rules.{rules}
 use Rattle.writes.proofs.rewrite.rewrite.Goals as goal
 
 pub overflow_sub-frame : goal.overflow_sub-frame

@@ -8,7 +8,6 @@ use Rattle.rules.specs.Outcomes.{after}
 use Rattle.requests.specs.Forms.{cut_in}
 use Rattle.format.proofs.KnownLaws.{known_room}
 use Rattle.writes.proofs.Whole.{freed_whole, final_room}
-use borrow.Author.Rules.{rules}
 use Rattle.writes.proofs.rewrite.shorten.Goals as goal
 
 pub put_size-requires : goal.put_size-requires

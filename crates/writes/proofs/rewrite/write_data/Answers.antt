@@ -2,7 +2,6 @@
 use Rattle.rules.specs.Writing.{placed}
 use Rattle.requests.specs.Forms.{writes_in}
 use Rattle.writes.proofs.RewriteLaws.{data_laid}
-use borrow.Author.Rules.{rules}
 use Rattle.writes.proofs.rewrite.write_data.Goals as goal
 
 pub returns : goal.returns

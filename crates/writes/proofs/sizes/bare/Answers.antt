@@ -2,7 +2,6 @@
 use mathlib.Core.Path.{◌≡◌, ap, ◌∙◌}
 use Prim.Native.Nat.{ℕ, ◌-◌, ◌≤◌, min}
 use native.Mathlib.Omega.{arith}
-use borrow.Author.Rules.{rules}
 use Rattle.octets.proofs.ChoiceLaws.{least_is}
 use Rattle.rules.specs.Writing.{placed}
 use Rattle.requests.specs.Forms.{writes_in}

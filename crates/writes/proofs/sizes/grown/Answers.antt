@@ -2,7 +2,6 @@
 use mathlib.Core.Path.{◌≡◌, sym}
 use Prim.Native.Nat.{◌+◌, max}
 use native.Mathlib.Omega.{arith}
-use borrow.Author.Rules.{rules}
 use Rattle.rules.specs.Writing.{grow}
 use Rattle.writes.proofs.TableLaws.{grow-some, grow-none}
 use Rattle.writes.proofs.sizes.grown.Goals as goal

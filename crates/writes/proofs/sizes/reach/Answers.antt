@@ -1,6 +1,5 @@
 -- Two of the three things that the walk finds.
 use mathlib.Core.Path.{ap}
-use borrow.Author.Rules.{rules}
 use Rattle.writes.specs.declared.sizes.Reached.{Reached}
 use Rattle.writes.specs.declared.sizes.Walked.{Walked}
 use Rattle.writes.proofs.sizes.reach.Goals as goal

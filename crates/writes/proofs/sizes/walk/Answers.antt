@@ -3,11 +3,9 @@
 use mathlib.Core.Path.{refl, ap}
 use Prim.Native.Nat.{ℕ}
 use native.Mathlib.Omega.{arith}
-use borrow.Author.Rules.{rules}
 use Rattle.octets.specs.Facts.{Octets}
-use Rattle.rules.specs.Requests.{writes_from}
 use Rattle.requests.proofs.CursorLaws.{entry_resolved}
-use Rattle.writes.proofs.TableLaws.{Rest, rest_start, rest_fits, Taken, entry_bounds, Walking, walking_next}
+use Rattle.writes.proofs.TableLaws.{Rest, rest_start, rest_fits, Taken, entry_bounds, walking_next}
 use Rattle.writes.proofs.TableLaws.{walking-end}
 use Rattle.requests.specs.declared.cursors.Entry.{Entry}
 use Rattle.writes.proofs.sizes.walk.Goals as goal

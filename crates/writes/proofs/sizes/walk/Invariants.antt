@@ -1,15 +1,8 @@
 -- The invariant: what is left of the table, with what was found so far, gives what the whole table gives.
 -- The loop has no place of the new bytes: it holds for each.
-use mathlib.Core.Path.{refl, ap}
 use Prim.Native.Nat.{ℕ}
-use native.Mathlib.Omega.{arith}
-use borrow.Author.Rules.{rules}
-use Rattle.octets.specs.Facts.{Octets}
 use Rattle.rules.specs.Requests.{writes_from}
-use Rattle.requests.proofs.CursorLaws.{entry_resolved}
-use Rattle.writes.proofs.TableLaws.{Rest, rest_start, rest_fits, Taken, entry_bounds, Walking, walking_next}
-use Rattle.writes.proofs.TableLaws.{walking-end}
-use Rattle.requests.specs.declared.cursors.Entry.{Entry}
+use Rattle.writes.proofs.TableLaws.{Rest, Walking}
 use Rattle.writes.proofs.sizes.walk.Given as goal
 
 abbrev pub invariant-loop-left : goal.invariant-loop-left

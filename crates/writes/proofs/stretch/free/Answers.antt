@@ -5,7 +5,6 @@ use native.Mathlib.Omega.{arith}
 use Rattle.format.specs.Layout.{data_at}
 use Rattle.format.specs.declared.layout.Frame.{Frame}
 use Rattle.writes.proofs.RewriteLaws.{freed_laid}
-use borrow.Author.Rules.{rules}
 use Rattle.writes.proofs.stretch.free.Goals as goal
 
 pub resized-after-requires : goal.resized-after-requires

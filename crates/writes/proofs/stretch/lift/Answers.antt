@@ -14,7 +14,6 @@ use Rattle.format.proofs.WellFormed.{used_is, moved_up}
 use Rattle.format.proofs.ViewLaws.{laid_length}
 use Rattle.writes.specs.Stretch.{data_end_of, used_end_of, Fits}
 use Rattle.writes.proofs.StretchLaws.{raised_laid}
-use borrow.Author.Rules.{rules}
 use Rattle.writes.proofs.stretch.lift.Goals as goal
 
 -- Both views fit.

@@ -4,7 +4,6 @@ use native.Mathlib.Omega.{arith}
 use lib.ListN.{length}
 use Rattle.octets.proofs.ChoiceLaws.{most_is}
 use Rattle.writes.proofs.StretchLaws.{raised}
-use borrow.Author.Rules.{rules}
 use Rattle.writes.proofs.stretch.raise.Goals as goal
 
 pub clear_part-requires : goal.clear_part-requires

@@ -1,6 +1,5 @@
 -- Each field is what its callee promises.
 use Rattle.requests.proofs.CursorLaws.{entry_made}
-use borrow.Author.Rules.{rules}
 use Rattle.requests.proofs.cursors.Cursor.entry.Goals as goal
 
 pub returns : goal.returns

@@ -1,7 +1,4 @@
 -- Three bytes of the request as they stand, and a number.
-use Prim.Native.Nat.{◌+◌}
-use native.Mathlib.Omega.{arith}
-use borrow.Author.Rules.{rules}
 use Rattle.requests.proofs.cursors.Cursor.header.Goals as goal
 
 pub returns : goal.returns

@@ -4,7 +4,6 @@ use Prim.Native.Nat.{◌+◌}
 use native.Mathlib.Omega.{arith}
 use Rattle.format.specs.Layout.{renewal_at}
 use Rattle.requests.specs.declared.cursors.Number.{Number}
-use borrow.Author.Rules.{rules}
 use Rattle.requests.proofs.cursors.Cursor.lease.Goals as goal
 
 pub number-expiry-requires : goal.number-expiry-requires

@@ -1,5 +1,4 @@
 -- The number that its callee promises.
-use borrow.Author.Rules.{rules}
 use Rattle.requests.proofs.cursors.Cursor.number.Goals as goal
 
 pub returns : goal.returns

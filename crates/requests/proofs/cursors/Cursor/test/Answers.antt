@@ -1,6 +1,5 @@
 -- The entry, two bytes and a number behind it.
 use Rattle.rules.specs.Requests.{entry_opcode, entry_specimen}
-use borrow.Author.Rules.{rules}
 use Rattle.requests.proofs.cursors.Cursor.test.Goals as goal
 
 pub returns : goal.returns
