@@ -1,5 +1,7 @@
 // Shares and containers built byte by byte, one line a case: its name, the number, the edition, the lengths of key,
 // signature, chain, tree, share data, private key and spare bytes. Then shares that the writers write.
+#![tactic(auto)]
+
 mod mdmf;
 mod sdmf;
 mod writing;
@@ -7,6 +9,8 @@ mod writing;
 use octets::{moves, numbers};
 use shares::share;
 use shares::share::Checked;
+use std::io;
+use std::io::Write;
 
 fn set8(s: &mut [u8], at: usize, v: u8) {
     if at < s.len() {
@@ -39,40 +43,40 @@ fn store(d: &mut [u8], at: usize, s: &[u8]) {
 }
 
 // What the cases below it have in common.
-fn title(name: &[u8]) {
-    io::write_all(1, b"== ");
-    io::write_all(1, name);
-    io::write_all(1, b"\n");
+fn title<W: Write>(out: &mut W, name: &[u8]) -> io::Result<()> {
+    out.write_all(b"== ")?;
+    out.write_all(name)?;
+    out.write_all(b"\n")
 }
 
-fn show_length(p: &[u8]) {
-    io::write_all(1, b" ");
-    io::print_decimal(1, p.len() as u64);
+fn show_length<W: Write>(out: &mut W, p: &[u8]) -> io::Result<()> {
+    out.write_all(b" ")?;
+    write!(out, "{}", p.len())
 }
 
-fn show_number(name: &[u8], number: u32) {
-    io::write_all(1, name);
-    io::write_all(1, b": ");
-    io::print_decimal(1, number as u64);
+fn show_number<W: Write>(out: &mut W, name: &[u8], number: u32) -> io::Result<()> {
+    out.write_all(name)?;
+    out.write_all(b": ")?;
+    write!(out, "{}", number)
 }
 
-fn show_checked(name: &[u8], checked: Checked) {
-    show_number(name, checked.number);
-    io::write_all(1, b", edition ");
-    io::print_decimal(1, checked.edition as u64);
-    io::write_all(1, b",");
+fn show_checked<W: Write>(out: &mut W, name: &[u8], checked: Checked) -> io::Result<()> {
+    show_number(out, name, checked.number)?;
+    out.write_all(b", edition ")?;
+    write!(out, "{}", checked.edition)?;
+    out.write_all(b",")
 }
 
-fn show(name: &[u8], s: &[u8]) {
-    show_checked(name, share::check(s));
-    show_length(share::key(s));
-    show_length(share::signature(s));
-    show_length(share::chain(s));
-    show_length(share::tree(s));
-    show_length(share::share_data(s));
-    show_length(share::private_key(s));
-    show_length(share::spare(s));
-    io::write_all(1, b"\n");
+fn show<W: Write>(out: &mut W, name: &[u8], s: &[u8]) -> io::Result<()> {
+    show_checked(out, name, share::check(s))?;
+    show_length(out, share::key(s))?;
+    show_length(out, share::signature(s))?;
+    show_length(out, share::chain(s))?;
+    show_length(out, share::tree(s))?;
+    show_length(out, share::share_data(s))?;
+    show_length(out, share::private_key(s))?;
+    show_length(out, share::spare(s))?;
+    out.write_all(b"\n")
 }
 
 // The first n bytes, or none where there are fewer.
@@ -83,16 +87,16 @@ fn front(s: &[u8], n: usize) -> &[u8] {
     &s[0..n]
 }
 
-fn show_container(name: &[u8], c: &[u8]) {
-    show_checked(name, share::check_container(c));
-    show_length(share::container_key(c));
-    show_length(share::container_signature(c));
-    show_length(share::container_chain(c));
-    show_length(share::container_tree(c));
-    show_length(share::container_share_data(c));
-    show_length(share::container_private_key(c));
-    show_length(share::container_spare(c));
-    io::write_all(1, b"\n");
+fn show_container<W: Write>(out: &mut W, name: &[u8], c: &[u8]) -> io::Result<()> {
+    show_checked(out, name, share::check_container(c))?;
+    show_length(out, share::container_key(c))?;
+    show_length(out, share::container_signature(c))?;
+    show_length(out, share::container_chain(c))?;
+    show_length(out, share::container_tree(c))?;
+    show_length(out, share::container_share_data(c))?;
+    show_length(out, share::container_private_key(c))?;
+    show_length(out, share::container_spare(c))?;
+    out.write_all(b"\n")
 }
 
 // A container with these data, no lease and no extra lease.
@@ -110,8 +114,9 @@ fn enclose(c: &mut [u8], s: &[u8]) {
     }
 }
 
-fn main() {
-    sdmf::run();
-    mdmf::run();
-    writing::run();
+fn main(rt: HostRuntime) -> io::Result<()> {
+    let mut out = rt.stdout();
+    sdmf::run(&mut out)?;
+    mdmf::run(&mut out)?;
+    writing::run(&mut out)
 }

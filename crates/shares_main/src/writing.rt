@@ -4,6 +4,8 @@ use crate::{front, set8, show, store};
 use octets::{numbers, strings};
 use share_rules::Written;
 use shares::share;
+use std::io;
+use std::io::Write;
 
 const LARGEST: u64 = 18446744073709551615;
 
@@ -70,19 +72,19 @@ fn mdmf() -> Given {
     }
 }
 
-fn show_written(name: &[u8], written: Written) {
-    crate::show_number(name, written.number);
-    io::write_all(1, b" ");
-    io::print_decimal(1, written.length);
-    io::write_all(1, b"\n");
+fn show_written<W: Write>(out: &mut W, name: &[u8], written: Written) -> io::Result<()> {
+    crate::show_number(out, name, written.number)?;
+    out.write_all(b" ")?;
+    write!(out, "{}", written.length)?;
+    out.write_all(b"\n")
 }
 
-fn say(what: &[u8], a: &[u8], b: &[u8]) {
-    io::write_all(1, what);
+fn say<W: Write>(out: &mut W, what: &[u8], a: &[u8], b: &[u8]) -> io::Result<()> {
+    out.write_all(what)?;
     if strings::compare(a, b) == 0 {
-        io::write_all(1, b": yes\n");
+        out.write_all(b": yes\n")
     } else {
-        io::write_all(1, b": NO\n");
+        out.write_all(b": NO\n")
     }
 }
 
@@ -219,38 +221,52 @@ fn behind(s: &[u8], n: usize) -> &[u8] {
 }
 
 // The share of n bytes in d, whose space had been 255s as e is now; it is written again into e.
-fn there_and_back(mdmf: bool, d: &[u8], n: usize, e: &mut [u8]) {
+fn there_and_back<W: Write>(
+    out: &mut W,
+    mdmf: bool,
+    d: &[u8],
+    n: usize,
+    e: &mut [u8],
+) -> io::Result<()> {
     let s = front(d, n);
     say(
+        out,
         b"  the bytes behind it are as they were",
         behind(d, n),
         behind(e, n),
-    );
-    show(b"  checked and read back", s);
-    show_written(b"  written again", write_again(mdmf, s, e));
-    say(b"  the space is the same again", d, e);
+    )?;
+    show(out, b"  checked and read back", s)?;
+    show_written(out, b"  written again", write_again(mdmf, s, e))?;
+    say(out, b"  the space is the same again", d, e)
 }
 
-fn case_in(name: &[u8], given: Given, d: &mut [u8], e: &mut [u8]) {
+fn case_in<W: Write>(
+    out: &mut W,
+    name: &[u8],
+    given: Given,
+    d: &mut [u8],
+    e: &mut [u8],
+) -> io::Result<()> {
     let mdmf = given.mdmf;
     let written = write(given, d);
     let number = written.number;
     let length = written.length;
-    show_written(name, written);
+    show_written(out, name, written)?;
     if number != 0 {
-        say(b"  the space is as it was", d, e);
+        say(out, b"  the space is as it was", d, e)
     } else {
-        there_and_back(mdmf, d, length as usize, e);
+        there_and_back(out, mdmf, d, length as usize, e)
     }
 }
 
-fn case(name: &[u8], given: Given) {
+fn case<W: Write>(out: &mut W, name: &[u8], given: Given) -> io::Result<()> {
     let n = given.space;
     if n <= 2600 {
         let mut d = [255u8; 2600];
         let mut e = [255u8; 2600];
-        case_in(name, given, &mut d[0..n], &mut e[0..n]);
+        case_in(out, name, given, &mut d[0..n], &mut e[0..n])?;
     }
+    Ok(())
 }
 
 // The SDMF share stored at the places that P11 of docs/RULES.md names.
@@ -298,205 +314,217 @@ fn build_mdmf_parts(s: &mut [u8]) {
     store(s, 2086, &tree);
 }
 
-fn sdmf_by_hand() {
+fn sdmf_by_hand<W: Write>(out: &mut W) -> io::Result<()> {
     let mut s = [0u8; 2043];
     build_sdmf_head(&mut s);
     build_sdmf_parts(&mut s);
     let mut d = [255u8; 2043];
     show_written(
+        out,
         b"the SDMF share, into its own length",
         write(sdmf(), &mut d),
-    );
-    say(b"  the bytes are those of the share built by hand", &d, &s);
+    )?;
+    say(
+        out,
+        b"  the bytes are those of the share built by hand",
+        &d,
+        &s,
+    )
 }
 
-fn mdmf_by_hand() {
+fn mdmf_by_hand<W: Write>(out: &mut W) -> io::Result<()> {
     let mut s = [0u8; 2310];
     build_mdmf_head(&mut s);
     build_mdmf_parts(&mut s);
     let mut d = [255u8; 2310];
     show_written(
+        out,
         b"the MDMF share, into its own length",
         write(mdmf(), &mut d),
-    );
-    say(b"  the bytes are those of the share built by hand", &d, &s);
+    )?;
+    say(
+        out,
+        b"  the bytes are those of the share built by hand",
+        &d,
+        &s,
+    )
 }
 
-fn sdmf_early() {
-    case(b"the SDMF share, into seven bytes more", sdmf());
+fn sdmf_early<W: Write>(out: &mut W) -> io::Result<()> {
+    case(out, b"the SDMF share, into seven bytes more", sdmf())?;
     let mut g = sdmf();
     g.root = 31;
     g.space = 1;
-    case(b"R of 31 bytes, into one byte", g);
+    case(out, b"R of 31 bytes, into one byte", g)?;
     let mut g = sdmf();
     g.k = 0;
     g.space = 1;
-    case(b"k 0, into one byte", g);
+    case(out, b"k 0, into one byte", g)?;
     let mut g = sdmf();
     g.space = 2042;
-    case(b"into 2,042 bytes", g);
+    case(out, b"into 2,042 bytes", g)?;
     let mut g = sdmf();
     g.k = 0;
-    case(b"k 0", g);
+    case(out, b"k 0", g)?;
     let mut g = sdmf();
     g.k = 2;
     g.length = LARGEST;
-    case(b"data length 2^64 - 1, k 2", g);
+    case(out, b"data length 2^64 - 1, k 2", g)?;
     let mut g = sdmf();
     g.key = 0;
-    case(b"no key", g);
+    case(out, b"no key", g)
 }
 
-fn sdmf_late() {
+fn sdmf_late<W: Write>(out: &mut W) -> io::Result<()> {
     let mut g = sdmf();
     g.node = 31;
-    case(b"node number 31", g);
+    case(out, b"node number 31", g)?;
     let mut g = sdmf();
     g.tree = 0;
-    case(b"no tree", g);
+    case(out, b"no tree", g)?;
     let mut g = sdmf();
     g.blocks = 5;
-    case(b"share data of 5 bytes", g);
+    case(out, b"share data of 5 bytes", g)?;
     let mut g = sdmf();
     g.length = LARGEST;
-    case(b"data length 2^64 - 1, k 3", g);
+    case(out, b"data length 2^64 - 1, k 3", g)?;
     let mut g = sdmf();
     g.sequence = LARGEST;
-    case(b"sequence number 2^64 - 1", g);
+    case(out, b"sequence number 2^64 - 1", g)
 }
 
-fn mdmf_taken() {
-    case(b"the MDMF share, into seven bytes more", mdmf());
+fn mdmf_taken<W: Write>(out: &mut W) -> io::Result<()> {
+    case(out, b"the MDMF share, into seven bytes more", mdmf())?;
     let mut g = mdmf();
     g.spare = 0;
-    case(b"no spare byte", g);
+    case(out, b"no spare byte", g)?;
     let mut g = mdmf();
     g.length = 0;
     g.blocks = 0;
     g.tree = 0;
-    case(b"no data, segment size 12", g);
+    case(out, b"no data, segment size 12", g)?;
     let mut g = mdmf();
     g.segment = 0;
     g.length = 0;
     g.blocks = 0;
     g.tree = 0;
-    case(b"no data, segment size 0", g);
+    case(out, b"no data, segment size 0", g)
 }
 
-fn mdmf_taken_too() {
+fn mdmf_taken_too<W: Write>(out: &mut W) -> io::Result<()> {
     let mut g = mdmf();
     g.segment = 3;
     g.length = 15;
     g.blocks = 85;
     g.tree = 480;
     g.space = 2600;
-    case(b"five segments", g);
+    case(out, b"five segments", g)?;
     let mut g = mdmf();
     g.segment = LARGEST;
     g.blocks = 26;
     g.tree = 32;
-    case(b"segment size 2^64 - 1", g);
+    case(out, b"segment size 2^64 - 1", g)?;
     let mut g = mdmf();
     g.private = 1;
     g.signature = 1;
     g.key = 1;
-    case(b"private key, signature and key of one byte", g);
+    case(out, b"private key, signature and key of one byte", g)
 }
 
-fn mdmf_space() {
+fn mdmf_space<W: Write>(out: &mut W) -> io::Result<()> {
     let mut g = mdmf();
     g.root = 31;
     g.space = 1;
-    case(b"R of 31 bytes, into one byte", g);
+    case(out, b"R of 31 bytes, into one byte", g)?;
     let mut g = mdmf();
     g.root = 33;
-    case(b"R of 33 bytes", g);
+    case(out, b"R of 33 bytes", g)?;
     let mut g = mdmf();
     g.k = 0;
     g.space = 1;
-    case(b"k 0, into one byte", g);
+    case(out, b"k 0, into one byte", g)?;
     let mut g = mdmf();
     g.space = 2309;
-    case(b"into 2,309 bytes", g);
+    case(out, b"into 2,309 bytes", g)
 }
 
-fn mdmf_numbers() {
+fn mdmf_numbers<W: Write>(out: &mut W) -> io::Result<()> {
     let mut g = mdmf();
     g.k = 0;
     g.segment = 10;
-    case(b"k 0 and segment size 10", g);
+    case(out, b"k 0 and segment size 10", g)?;
     let mut g = mdmf();
     g.k = 11;
-    case(b"k above N", g);
+    case(out, b"k above N", g)?;
     let mut g = mdmf();
     g.segment = 10;
-    case(b"segment size 10", g);
+    case(out, b"segment size 10", g)?;
     let mut g = mdmf();
     g.segment = 0;
-    case(b"segment size 0 with data", g);
+    case(out, b"segment size 0 with data", g)
 }
 
-fn mdmf_parts() {
+fn mdmf_parts<W: Write>(out: &mut W) -> io::Result<()> {
     let mut g = mdmf();
     g.private = 0;
-    case(b"no private key", g);
+    case(out, b"no private key", g)?;
     let mut g = mdmf();
     g.signature = 0;
-    case(b"no signature", g);
+    case(out, b"no signature", g)?;
     let mut g = mdmf();
     g.key = 0;
-    case(b"no key", g);
+    case(out, b"no key", g)?;
     let mut g = mdmf();
     g.node = 31;
-    case(b"node number 31", g);
+    case(out, b"node number 31", g)?;
     let mut g = mdmf();
     g.chain = 135;
-    case(b"chain of 135 bytes", g);
+    case(out, b"chain of 135 bytes", g)
 }
 
-fn mdmf_data() {
+fn mdmf_data<W: Write>(out: &mut W) -> io::Result<()> {
     let mut g = mdmf();
     g.tree = 0;
-    case(b"no tree", g);
+    case(out, b"no tree", g)?;
     let mut g = mdmf();
     g.tree = 96;
-    case(b"a tree of 3 hashes", g);
+    case(out, b"a tree of 3 hashes", g)?;
     let mut g = mdmf();
     g.length = 0;
     g.blocks = 0;
     g.tree = 32;
-    case(b"no data and a tree of one hash", g);
+    case(out, b"no data and a tree of one hash", g)?;
     let mut g = mdmf();
     g.blocks = 57;
-    case(b"share data of 57 bytes", g);
+    case(out, b"share data of 57 bytes", g)
 }
 
-fn mdmf_last() {
+fn mdmf_last<W: Write>(out: &mut W) -> io::Result<()> {
     let mut g = mdmf();
     g.length = LARGEST;
-    case(b"data length 2^64 - 1", g);
+    case(out, b"data length 2^64 - 1", g)?;
     let mut g = mdmf();
     g.segment = LARGEST;
     g.length = LARGEST;
     g.tree = 32;
-    case(b"data length and segment size 2^64 - 1", g);
+    case(out, b"data length and segment size 2^64 - 1", g)?;
     let mut g = mdmf();
     g.sequence = LARGEST;
-    case(b"sequence number 2^64 - 1", g);
+    case(out, b"sequence number 2^64 - 1", g)
 }
 
-pub(crate) fn run() {
-    crate::title(b"SDMF shares that are written");
-    sdmf_by_hand();
-    sdmf_early();
-    sdmf_late();
-    crate::title(b"MDMF shares that are written");
-    mdmf_by_hand();
-    mdmf_taken();
-    mdmf_taken_too();
-    mdmf_space();
-    mdmf_numbers();
-    mdmf_parts();
-    mdmf_data();
-    mdmf_last();
+pub(crate) fn run<W: Write>(out: &mut W) -> io::Result<()> {
+    crate::title(out, b"SDMF shares that are written")?;
+    sdmf_by_hand(out)?;
+    sdmf_early(out)?;
+    sdmf_late(out)?;
+    crate::title(out, b"MDMF shares that are written")?;
+    mdmf_by_hand(out)?;
+    mdmf_taken(out)?;
+    mdmf_taken_too(out)?;
+    mdmf_space(out)?;
+    mdmf_numbers(out)?;
+    mdmf_parts(out)?;
+    mdmf_data(out)?;
+    mdmf_last(out)
 }
