@@ -1,8 +1,9 @@
-// Which bytes of a buffer a request changed, on standard output.
+// Which bytes of a buffer a request changed, on an output.
 ghost use Rattle.std.specs.Prelude.{◌≡◌, ◌≤◌, length};
 
 use crate::printing::{number, text};
-use libc::STDOUT_FILENO;
+use std::io;
+use std::io::Write;
 
 // Where a run of changed or of unchanged bytes that goes on at `at` ends.
 fn run_end(a: &[u8], b: &[u8], at: usize, changed: bool) -> usize
@@ -20,28 +21,29 @@ fn run_end(a: &[u8], b: &[u8], at: usize, changed: bool) -> usize
 }
 
 // A run of positions, by its first and its last.
-pub(crate) fn run(from: usize, last: usize) {
-    text(STDOUT_FILENO, b" ");
-    number(STDOUT_FILENO, from as u64);
+pub(crate) fn run<W: Write>(out: &mut W, from: usize, last: usize) -> io::Result<()> {
+    text(out, b" ")?;
+    number(out, from as u64)?;
     if from < last {
-        text(STDOUT_FILENO, b"-");
-        number(STDOUT_FILENO, last as u64);
+        text(out, b"-")?;
+        number(out, last as u64)?;
     }
+    Ok(())
 }
 
 // The positions at which a and b differ, in runs.
-pub(crate) fn show(a: &[u8], b: &[u8])
+pub(crate) fn show<W: Write>(out: &mut W, a: &[u8], b: &[u8]) -> io::Result<()>
     requires { length a.now ≡ length b.now }
 {
-    text(STDOUT_FILENO, b"    bytes changed:");
+    text(out, b"    bytes changed:")?;
     let mut at = run_end(a, b, 0, false);
     if at == a.len() {
-        text(STDOUT_FILENO, b" none");
+        text(out, b" none")?;
     }
     while at < a.len() {
         let e = run_end(a, b, at + 1, true);
-        run(at, e - 1);
+        run(out, at, e - 1)?;
         at = run_end(a, b, e, false);
     }
-    text(STDOUT_FILENO, b"\n");
+    text(out, b"\n")
 }

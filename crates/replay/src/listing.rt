@@ -1,10 +1,11 @@
 // The never-written list in the transcript: which positions it names, and the line of its runs.
 use crate::changing::run;
 use crate::printing::{number, text};
-use libc::STDOUT_FILENO;
 use lists::list::{LIST_LENGTH, ROW_LIMIT, ROWS_AT};
 use lists::rows::{Span, row_at};
 use octets::choices::lesser;
+use std::io;
+use std::io::Write;
 
 // More runs are shortened.
 const MOST_RUNS: usize = 16;
@@ -46,36 +47,38 @@ pub(crate) fn named(l: &[u8], position: usize) -> bool {
 }
 
 // A row that is not empty, as a run.
-fn span(s: Span) {
+fn span<W: Write>(out: &mut W, s: Span) -> io::Result<()> {
     let from = s.from;
     let to = s.to;
     if from < to {
-        run(from, to - 1);
+        run(out, from, to - 1)?;
     }
+    Ok(())
 }
 
 // The first n rows.
-fn runs(l: &[u8], n: usize) {
+fn runs<W: Write>(out: &mut W, l: &[u8], n: usize) -> io::Result<()> {
     let mut i = 0;
     while i < n {
-        span(row(l, i));
+        span(out, row(l, i))?;
         i += 1;
     }
+    Ok(())
 }
 
 // The positions that a good list names, in runs; nothing where it names none.
-pub(crate) fn show(l: &[u8]) {
+pub(crate) fn show<W: Write>(out: &mut W, l: &[u8]) -> io::Result<()> {
     let n = row_count(l);
     if n == 0 {
-        return;
+        return Ok(());
     }
-    text(STDOUT_FILENO, b"    never written:");
+    text(out, b"    never written:")?;
     let shown = lesser(n, MOST_RUNS);
-    runs(l, shown);
+    runs(out, l, shown)?;
     if shown < n {
-        text(STDOUT_FILENO, b" ... and ");
-        number(STDOUT_FILENO, (n - shown) as u64);
-        text(STDOUT_FILENO, b" more");
+        text(out, b" ... and ")?;
+        number(out, (n - shown) as u64)?;
+        text(out, b" more")?;
     }
-    text(STDOUT_FILENO, b"\n");
+    text(out, b"\n")
 }

@@ -1,8 +1,9 @@
 // How a run ended. What stops it is said on standard error, and again as the transcript's last line, by which a script
 // can tell the ends apart: that line begins with a number or with `stopped`, and nothing from a file stands before it.
 use crate::printing::{ascii, number, text};
-use libc::{STDERR_FILENO, STDOUT_FILENO};
 use replaying::items::Fault;
+use std::io;
+use std::io::Write;
 
 // Why a run stops at a line.
 #[derive(Clone, Copy)]
@@ -18,12 +19,12 @@ pub(crate) enum Why {
     Answer(u32, u32),
 }
 
-fn numbered(out: i32, before: &[u8], n: u64) {
-    text(out, before);
-    number(out, n);
+fn numbered<W: Write>(out: &mut W, before: &[u8], n: u64) -> io::Result<()> {
+    text(out, before)?;
+    number(out, n)
 }
 
-fn layout(out: i32, f: Fault) {
+fn layout<W: Write>(out: &mut W, f: Fault) -> io::Result<()> {
     match f {
         Fault::CarriageReturn => text(out, b"a carriage return: lines end with a line feed alone"),
         Fault::Word => text(out, b"the line begins with no word that is known"),
@@ -41,12 +42,12 @@ fn layout(out: i32, f: Fault) {
     }
 }
 
-fn answer(out: i32, expected: u32, came: u32) {
-    numbered(out, b"expected ", expected as u64);
-    numbered(out, b", but the last answer was ", came as u64);
+fn answer<W: Write>(out: &mut W, expected: u32, came: u32) -> io::Result<()> {
+    numbered(out, b"expected ", expected as u64)?;
+    numbered(out, b", but the last answer was ", came as u64)
 }
 
-fn reason(out: i32, why: Why) {
+fn reason<W: Write>(out: &mut W, why: Why) -> io::Result<()> {
     match why {
         Why::Layout(f) => layout(out, f),
         Why::NoBuffer => text(out, b"there is no buffer yet"),
@@ -60,70 +61,90 @@ fn reason(out: i32, why: Why) {
     }
 }
 
-fn line_message(out: i32, name: &[u8], line: u64, why: Why) {
-    ascii(out, name);
-    numbered(out, b", line ", line);
-    text(out, b": ");
-    reason(out, why);
-    text(out, b"\n");
+fn line_message<W: Write>(out: &mut W, name: &[u8], line: u64, why: Why) -> io::Result<()> {
+    ascii(out, name)?;
+    numbered(out, b", line ", line)?;
+    text(out, b": ")?;
+    reason(out, why)?;
+    text(out, b"\n")
 }
 
-fn file_message(out: i32, name: &[u8], reason: &[u8]) {
-    ascii(out, name);
-    text(out, b": ");
-    text(out, reason);
-    text(out, b"\n");
+fn file_message<W: Write>(out: &mut W, name: &[u8], reason: &[u8]) -> io::Result<()> {
+    ascii(out, name)?;
+    text(out, b": ")?;
+    text(out, reason)?;
+    text(out, b"\n")
 }
 
-fn argument_message(out: i32, i: u64) {
-    numbered(out, b"argument ", i);
+fn argument_message<W: Write>(out: &mut W, i: u64) -> io::Result<()> {
+    numbered(out, b"argument ", i)?;
     text(
         out,
         b": the file's name is empty or longer than 4,096 bytes\n",
-    );
+    )
 }
 
-// The verdict's first words.
-fn stopped() {
-    text(STDOUT_FILENO, b"stopped at ");
+// The verdict's first words. Where standard error takes no message, the verdict is written all the same, and then the
+// run ends with that error.
+fn stopped<W: Write>(out: &mut W) -> io::Result<()> {
+    text(out, b"stopped at ")
 }
 
-pub(crate) fn stop_at_line(name: &[u8], line: u64, why: Why) {
-    line_message(STDERR_FILENO, name, line, why);
-    stopped();
-    line_message(STDOUT_FILENO, name, line, why);
+pub(crate) fn stop_at_line<W: Write, E: Write>(
+    out: &mut W,
+    err: &mut E,
+    name: &[u8],
+    line: u64,
+    why: Why,
+) -> io::Result<()> {
+    let said = line_message(err, name, line, why);
+    stopped(out)?;
+    line_message(out, name, line, why)?;
+    said
 }
 
 // For a fault of the whole file.
-pub(crate) fn stop_at_file(name: &[u8], reason: &[u8]) {
-    file_message(STDERR_FILENO, name, reason);
-    stopped();
-    file_message(STDOUT_FILENO, name, reason);
+pub(crate) fn stop_at_file<W: Write, E: Write>(
+    out: &mut W,
+    err: &mut E,
+    name: &[u8],
+    reason: &[u8],
+) -> io::Result<()> {
+    let said = file_message(err, name, reason);
+    stopped(out)?;
+    file_message(out, name, reason)?;
+    said
 }
 
 // For a file that has no name to be shown.
-pub(crate) fn stop_at_argument(i: u64) {
-    argument_message(STDERR_FILENO, i);
-    stopped();
-    argument_message(STDOUT_FILENO, i);
+pub(crate) fn stop_at_argument<W: Write, E: Write>(
+    out: &mut W,
+    err: &mut E,
+    i: u64,
+) -> io::Result<()> {
+    let said = argument_message(err, i);
+    stopped(out)?;
+    argument_message(out, i)?;
+    said
 }
 
-pub(crate) fn stop_at_once() {
-    text(STDERR_FILENO, b"usage: replay FILE..\n");
-    text(STDOUT_FILENO, b"stopped: no file was named\n");
+pub(crate) fn stop_at_once<W: Write, E: Write>(out: &mut W, err: &mut E) -> io::Result<()> {
+    let said = text(err, b"usage: replay FILE..\n");
+    text(out, b"stopped: no file was named\n")?;
+    said
 }
 
-fn count(n: u64, one: &[u8], more: &[u8]) {
-    number(STDOUT_FILENO, n);
+fn count<W: Write>(out: &mut W, n: u64, one: &[u8], more: &[u8]) -> io::Result<()> {
+    number(out, n)?;
     if n == 1 {
-        text(STDOUT_FILENO, one);
+        text(out, one)
     } else {
-        text(STDOUT_FILENO, more);
+        text(out, more)
     }
 }
 
-pub(crate) fn as_expected(files: u64, requests: u64) {
-    count(files, b" file, ", b" files, ");
-    count(requests, b" request: ", b" requests: ");
-    text(STDOUT_FILENO, b"as expected\n");
+pub(crate) fn as_expected<W: Write>(out: &mut W, files: u64, requests: u64) -> io::Result<()> {
+    count(out, files, b" file, ", b" files, ")?;
+    count(out, requests, b" request: ", b" requests: ")?;
+    text(out, b"as expected\n")
 }

@@ -10,6 +10,8 @@ use replaying::items::{Fault, Put};
 use replaying::scanning::Sort;
 use replaying::{commands, items, scanning};
 use requests::forms::REQUEST_LIMIT;
+use std::io;
+use std::io::Write;
 
 // A little more than a request may have, so that one that is a byte too long can be replayed. The containers of a replay
 // have as much, which is far below their own limit.
@@ -59,34 +61,42 @@ fn with_answer(st: State, number: u32) -> State {
 }
 
 // Shows the container before, if there is one, and leaves a line empty.
-fn close(st: State, c: &[u8], l: &[u8]) {
+fn close<W: Write>(out: &mut W, st: State, c: &[u8], l: &[u8]) -> io::Result<()> {
     let open = st.open;
     if open {
         let n = clip(st.length, c);
-        showing::container(&c[..n], l);
-        showing::share(&c[..n]);
-        showing::write(b"\n");
+        showing::container(out, &c[..n], l)?;
+        showing::share(out, &c[..n])?;
+        showing::write(out, b"\n")?;
     }
+    Ok(())
 }
 
 // A container of zeros, and beside it the list of no rows.
-fn begin(s: &[u8], at: usize, st: State, c: &mut [u8], l: &mut [u8]) -> Step
+fn begin<W: Write>(
+    out: &mut W,
+    s: &[u8],
+    at: usize,
+    st: State,
+    c: &mut [u8],
+    l: &mut [u8],
+) -> io::Result<Step>
     requires { at ≤ length s.now }
 {
     if st.request != 0 {
-        return Step::Stop(Why::Begun);
+        return Ok(Step::Stop(Why::Begun));
     }
     match commands::only_number(s, at, BUFFER_SIZE as u32) {
-        Argument::Bad(f) => Step::Stop(Why::Layout(f)),
+        Argument::Bad(f) => Ok(Step::Stop(Why::Layout(f))),
         Argument::Number(n) => {
-            close(st, c, l);
+            close(out, st, c, l)?;
             octets::moves::clear(c);
             octets::moves::clear(l);
             let mut next = st;
             next.open = true;
             next.length = n as usize;
             next.answered = false;
-            Step::On(next)
+            Ok(Step::On(next))
         }
     }
 }
@@ -146,22 +156,30 @@ fn enabler(s: &[u8], at: usize, st: State, enabler: &mut [u8]) -> Step
     }
 }
 
-fn create(s: &[u8], at: usize, st: State, c: &mut [u8], node: &[u8], enabler: &[u8]) -> Step
+fn create<W: Write>(
+    out: &mut W,
+    s: &[u8],
+    at: usize,
+    st: State,
+    c: &mut [u8],
+    node: &[u8],
+    enabler: &[u8],
+) -> io::Result<Step>
     requires { at ≤ length s.now }
 {
     let open = st.open;
     if !open {
-        return Step::Stop(Why::NoBuffer);
+        return Ok(Step::Stop(Why::NoBuffer));
     }
     if !commands::ends(s, at) {
-        return Step::Stop(Why::Layout(Fault::More));
+        return Ok(Step::Stop(Why::Layout(Fault::More)));
     }
     let n = clip(st.length, c);
     let a = clip(st.node, node);
     let b = clip(st.enabler, enabler);
     let x = creation::create(&mut c[..n], &node[..a], &enabler[..b]);
-    showing::created(x);
-    Step::On(with_answer(st, x.number))
+    showing::created(out, x)?;
+    Ok(Step::On(with_answer(st, x.number)))
 }
 
 fn bytes(s: &[u8], at: usize, st: State, q: &mut [u8]) -> Step
@@ -179,56 +197,74 @@ fn bytes(s: &[u8], at: usize, st: State, q: &mut [u8]) -> Step
 }
 
 // The pieces of a reply are those before any write, so they are shown beside the list as it was before.
-fn run_beside(
+fn run_beside<W: Write>(
+    out: &mut W,
     st: State,
     c: &mut [u8],
     l: &mut [u8],
     q: &[u8],
     r: &mut [u8],
     before: &mut [u8],
-) -> u32 {
+) -> io::Result<u32> {
     let n = clip(st.length, c);
     let k = clip_both(LIST_LENGTH, l, before);
     octets::moves::copy(&mut before[..k], &l[..k]);
     let size = container::data::data_of(&c[..n]).len();
     let x = listed_slot::requesting::apply(&mut c[..n], l, q, r);
-    showing::applied(q, x, r, size, before);
-    x.number
+    showing::applied(out, q, x, r, size, before)?;
+    Ok(x.number)
 }
 
-fn run_request(st: State, c: &mut [u8], l: &mut [u8], q: &[u8], r: &mut [u8]) -> u32 {
+fn run_request<W: Write>(
+    out: &mut W,
+    st: State,
+    c: &mut [u8],
+    l: &mut [u8],
+    q: &[u8],
+    r: &mut [u8],
+) -> io::Result<u32> {
     let mut before = [0u8; LIST_LENGTH];
-    run_beside(st, c, l, q, r, &mut before)
+    run_beside(out, st, c, l, q, r, &mut before)
 }
 
 // Shows what the request changed too.
-fn run_watched(
+fn run_watched<W: Write>(
+    out: &mut W,
     st: State,
     c: &mut [u8],
     l: &mut [u8],
     q: &[u8],
     r: &mut [u8],
     before: &mut [u8],
-) -> u32 {
+) -> io::Result<u32> {
     let n = clip_both(st.length, c, before);
     octets::moves::copy(&mut before[..n], &c[..n]);
-    let number = run_request(st, c, l, q, r);
+    let number = run_request(out, st, c, l, q, r)?;
     let m = clip_both(st.length, c, before);
-    changing::show(&before[..m], &c[..m]);
-    number
+    changing::show(out, &before[..m], &c[..m])?;
+    Ok(number)
 }
 
 // As the word of the line asks.
-fn run_asked(watched: bool, st: State, c: &mut [u8], l: &mut [u8], q: &[u8], r: &mut [u8]) -> u32 {
+fn run_asked<W: Write>(
+    out: &mut W,
+    watched: bool,
+    st: State,
+    c: &mut [u8],
+    l: &mut [u8],
+    q: &[u8],
+    r: &mut [u8],
+) -> io::Result<u32> {
     if watched {
         let mut before = [0u8; BUFFER_SIZE];
-        return run_watched(st, c, l, q, r, &mut before);
+        return run_watched(out, st, c, l, q, r, &mut before);
     }
-    run_request(st, c, l, q, r)
+    run_request(out, st, c, l, q, r)
 }
 
 // The reply space holds AA at first, so that bytes that nobody wrote can be told.
-fn apply(
+fn apply<W: Write>(
+    out: &mut W,
     s: &[u8],
     at: usize,
     st: State,
@@ -236,22 +272,23 @@ fn apply(
     l: &mut [u8],
     q: &[u8],
     watched: bool,
-) -> Step
+) -> io::Result<Step>
     requires { at ≤ length s.now }
 {
     let open = st.open;
     if !open {
-        return Step::Stop(Why::NoBuffer);
+        return Ok(Step::Stop(Why::NoBuffer));
     }
     match commands::only_number(s, at, REPLY_SIZE as u32) {
-        Argument::Bad(f) => Step::Stop(Why::Layout(f)),
+        Argument::Bad(f) => Ok(Step::Stop(Why::Layout(f))),
         Argument::Number(n) => {
             let mut r = [170u8; REPLY_SIZE];
             let k = clip(st.request, q);
             let m = clip(n as usize, &r);
-            let mut next = with_answer(st, run_asked(watched, st, c, l, &q[..k], &mut r[..m]));
+            let number = run_asked(out, watched, st, c, l, &q[..k], &mut r[..m])?;
+            let mut next = with_answer(st, number);
             next.request = 0;
-            Step::On(next)
+            Ok(Step::On(next))
         }
     }
 }
@@ -273,7 +310,8 @@ fn expect(s: &[u8], at: usize, st: State) -> Step
     }
 }
 
-fn run_word(
+fn run_word<W: Write>(
+    out: &mut W,
     w: Word,
     s: &[u8],
     at: usize,
@@ -283,29 +321,30 @@ fn run_word(
     q: &mut [u8],
     node_id: &mut [u8],
     secret: &mut [u8],
-) -> Step
+) -> io::Result<Step>
     requires { at ≤ length s.now }
 {
     match w {
-        Word::Buffer => begin(s, at, st, c, l),
-        Word::Load => load(s, at, st, c),
-        Word::List => list(s, at, st, l),
-        Word::Node => node(s, at, st, node_id),
-        Word::Enabler => enabler(s, at, st, secret),
-        Word::Create => create(s, at, st, c, node_id, secret),
-        Word::Bytes => bytes(s, at, st, q),
-        Word::Apply => apply(s, at, st, c, l, q, false),
-        Word::Watch => apply(s, at, st, c, l, q, true),
-        Word::Expect => expect(s, at, st),
+        Word::Buffer => begin(out, s, at, st, c, l),
+        Word::Load => Ok(load(s, at, st, c)),
+        Word::List => Ok(list(s, at, st, l)),
+        Word::Node => Ok(node(s, at, st, node_id)),
+        Word::Enabler => Ok(enabler(s, at, st, secret)),
+        Word::Create => create(out, s, at, st, c, node_id, secret),
+        Word::Bytes => Ok(bytes(s, at, st, q)),
+        Word::Apply => apply(out, s, at, st, c, l, q, false),
+        Word::Watch => apply(out, s, at, st, c, l, q, true),
+        Word::Expect => Ok(expect(s, at, st)),
         Word::Say => {
-            showing::said(&s[at..]);
-            Step::On(st)
+            showing::said(out, &s[at..])?;
+            Ok(Step::On(st))
         }
-        Word::Unknown => Step::Stop(Why::Layout(Fault::Word)),
+        Word::Unknown => Ok(Step::Stop(Why::Layout(Fault::Word))),
     }
 }
 
-fn run_line(
+fn run_line<W: Write>(
+    out: &mut W,
     s: &[u8],
     st: State,
     c: &mut [u8],
@@ -313,26 +352,36 @@ fn run_line(
     q: &mut [u8],
     node_id: &mut [u8],
     secret: &mut [u8],
-) -> Step {
+) -> io::Result<Step> {
     match commands::command_of(s) {
-        Command::Nothing => Step::On(st),
-        Command::Do(w, at) => run_word(w, s, at, st, c, l, q, node_id, secret),
-        Command::Bad(f) => Step::Stop(Why::Layout(f)),
+        Command::Nothing => Ok(Step::On(st)),
+        Command::Do(w, at) => run_word(out, w, s, at, st, c, l, q, node_id, secret),
+        Command::Bad(f) => Ok(Step::Stop(Why::Layout(f))),
     }
 }
 
 // The end of a file, behind its last line: a request must not be left over.
-fn finish(name: &[u8], line: u64, st: State, c: &[u8], l: &[u8]) -> Ran {
+fn finish<W: Write, E: Write>(
+    out: &mut W,
+    err: &mut E,
+    name: &[u8],
+    line: u64,
+    st: State,
+    c: &[u8],
+    l: &[u8],
+) -> io::Result<Ran> {
     if st.request != 0 {
-        reporting::stop_at_line(name, line, Why::LeftOver);
-        return Ran::Stopped;
+        reporting::stop_at_line(out, err, name, line, Why::LeftOver)?;
+        return Ok(Ran::Stopped);
     }
-    close(st, c, l);
-    Ran::Done(st.requests)
+    close(out, st, c, l)?;
+    Ok(Ran::Done(st.requests))
 }
 
 // Runs all lines to the end of the file, or stops with a message. The last line needs no line feed.
-fn run_lines(
+fn run_lines<W: Write, E: Write>(
+    out: &mut W,
+    err: &mut E,
     name: &[u8],
     t: &[u8],
     c: &mut [u8],
@@ -340,7 +389,7 @@ fn run_lines(
     q: &mut [u8],
     node_id: &mut [u8],
     secret: &mut [u8],
-) -> Ran {
+) -> io::Result<Ran> {
     let mut st = State {
         open: false,
         length: 0,
@@ -356,25 +405,40 @@ fn run_lines(
     while at < t.len() {
         let e = scanning::run_end(t, at, Sort::But(10));
         line += 1;
-        match run_line(&t[at..e], st, c, l, q, node_id, secret) {
+        match run_line(out, &t[at..e], st, c, l, q, node_id, secret)? {
             Step::On(next) => {
                 st = next;
             }
             Step::Stop(why) => {
-                reporting::stop_at_line(name, line, why);
-                return Ran::Stopped;
+                reporting::stop_at_line(out, err, name, line, why)?;
+                return Ok(Ran::Stopped);
             }
         }
         at = e + 1;
     }
-    finish(name, line, st, c, l)
+    finish(out, err, name, line, st, c, l)
 }
 
-pub(crate) fn run_text(name: &[u8], t: &[u8]) -> Ran {
+pub(crate) fn run_text<W: Write, E: Write>(
+    out: &mut W,
+    err: &mut E,
+    name: &[u8],
+    t: &[u8],
+) -> io::Result<Ran> {
     let mut c = [0u8; BUFFER_SIZE];
     let mut l = [0u8; LIST_LENGTH];
     let mut q = [0u8; BUFFER_SIZE];
     let mut node_id = [0u8; 64];
     let mut secret = [0u8; 64];
-    run_lines(name, t, &mut c, &mut l, &mut q, &mut node_id, &mut secret)
+    run_lines(
+        out,
+        err,
+        name,
+        t,
+        &mut c,
+        &mut l,
+        &mut q,
+        &mut node_id,
+        &mut secret,
+    )
 }

@@ -1,6 +1,6 @@
-// The transcript, on standard output.
+// The transcript, on an output.
 ghost use Rattle.std.specs.Prelude.{◌+◌, ◌*◌, ◌<◌, ◌≤◌, length};
-ghost use Rattle.io.specs.Counts.{IsPrefixLen};
+ghost use Rattle.std.specs.Counts.{IsPrefixLen};
 ghost use Rattle.format.specs.Layout.{record_size, lease_limit, data_at, limit};
 ghost use Rattle.format.specs.Judging.{Known};
 ghost use Rattle.requests.specs.Forms.{TableIn};
@@ -8,7 +8,6 @@ ghost use Rattle.requests.specs.Forms.{TableIn};
 use crate::{listing, printing};
 use format::judging::Judged;
 use format::layout::{EXPIRY_AT, FIXED_PLACES, Frame, LEASES_AT, RECORD_SIZE};
-use libc::STDOUT_FILENO;
 use octets::choices::lesser;
 use replies::pieces::LENGTH_SIZE;
 use requests::cursors::Cursor;
@@ -16,6 +15,8 @@ use requests::forms::{Form, Table};
 use requests::offsets::resolve;
 use rules::Answer;
 use shares::share::MDMF;
+use std::io;
+use std::io::Write;
 
 // Longer data and more extra leases are shortened.
 const MOST_BYTES: usize = 128;
@@ -25,30 +26,30 @@ const MOST_EXTRAS: usize = 4;
 // Above every position in data.
 const MOST_POSITION: usize = 4294967295;
 
-pub(crate) fn write(text: &[u8]) {
-    printing::text(STDOUT_FILENO, text);
+pub(crate) fn write<W: Write>(out: &mut W, text: &[u8]) -> io::Result<()> {
+    printing::text(out, text)
 }
 
-fn number(n: u64) {
-    printing::number(STDOUT_FILENO, n);
+fn number<W: Write>(out: &mut W, n: u64) -> io::Result<()> {
+    printing::number(out, n)
 }
 
-fn ascii(s: &[u8]) {
-    printing::ascii(STDOUT_FILENO, s);
+fn ascii<W: Write>(out: &mut W, s: &[u8]) -> io::Result<()> {
+    printing::ascii(out, s)
 }
 
 // The head of a file's transcript.
-pub(crate) fn file(name: &[u8]) {
-    write(b"== ");
-    ascii(name);
-    write(b"\n");
+pub(crate) fn file<W: Write>(out: &mut W, name: &[u8]) -> io::Result<()> {
+    write(out, b"== ")?;
+    ascii(out, name)?;
+    write(out, b"\n")
 }
 
 // What a file says stands behind a space, and so is never taken for the verdict.
-pub(crate) fn said(s: &[u8]) {
-    write(b" ");
-    ascii(s);
-    write(b"\n");
+pub(crate) fn said<W: Write>(out: &mut W, s: &[u8]) -> io::Result<()> {
+    write(out, b" ")?;
+    ascii(out, s)?;
+    write(out, b"\n")
 }
 
 // n, or all of s where that is less.
@@ -66,20 +67,20 @@ pub(crate) fn clip_both(n: usize, s: &[u8], t: &[u8]) -> usize
 }
 
 // A number in five columns.
-fn column(n: u64) {
+fn column<W: Write>(out: &mut W, n: u64) -> io::Result<()> {
     if n < 10000 {
-        write(b" ");
+        write(out, b" ")?;
     }
     if n < 1000 {
-        write(b" ");
+        write(out, b" ")?;
     }
     if n < 100 {
-        write(b" ");
+        write(out, b" ")?;
     }
     if n < 10 {
-        write(b" ");
+        write(out, b" ")?;
     }
-    number(n);
+    number(out, n)
 }
 
 fn glyph(d: u8) -> u8
@@ -88,17 +89,18 @@ fn glyph(d: u8) -> u8
     if d < 10 { 48 + d } else { 55 + d }
 }
 
-fn hex(b: u8) {
+fn hex<W: Write>(out: &mut W, b: u8) -> io::Result<()> {
     let two = [glyph(b / 16), glyph(b % 16)];
-    write(&two);
+    write(out, &two)
 }
 
-fn hex_all(s: &[u8]) {
+fn hex_all<W: Write>(out: &mut W, s: &[u8]) -> io::Result<()> {
     let mut i = 0;
     while i < s.len() {
-        hex(s[i]);
+        hex(out, s[i])?;
         i += 1;
     }
+    Ok(())
 }
 
 // The position i places behind another. Both are far below the bound, which spares the proof of it.
@@ -107,137 +109,143 @@ fn behind(position: usize, i: usize) -> usize {
 }
 
 // Byte i of those that stand in the data from a position on; `--` where the list names it, blanks where there is none.
-fn cell(s: &[u8], i: usize, l: &[u8], from: usize) {
+fn cell<W: Write>(out: &mut W, s: &[u8], i: usize, l: &[u8], from: usize) -> io::Result<()> {
     if s.len() <= i {
-        write(b"   ");
-        return;
+        return write(out, b"   ");
     }
     if listing::named(l, behind(from, i)) {
-        write(b"-- ");
-        return;
+        return write(out, b"-- ");
     }
-    hex(s[i]);
-    write(b" ");
+    hex(out, s[i])?;
+    write(out, b" ")
 }
 
 // Sixteen cells, so that what follows stands in one column.
-fn hex_cells(s: &[u8], l: &[u8], from: usize) {
+fn hex_cells<W: Write>(out: &mut W, s: &[u8], l: &[u8], from: usize) -> io::Result<()> {
     let mut i = 0;
     while i < 16 {
-        cell(s, i, l, from);
+        cell(out, s, i, l, from)?;
         i += 1;
     }
+    Ok(())
 }
 
 // At most 16 bytes behind the place of the first among those that are shown.
-fn row(at: usize, s: &[u8], l: &[u8], from: usize) {
-    write(b"      ");
-    column(at as u64);
-    write(b"  ");
-    hex_cells(s, l, from);
-    write(b" |");
-    ascii(s);
-    write(b"|\n");
+fn row<W: Write>(out: &mut W, at: usize, s: &[u8], l: &[u8], from: usize) -> io::Result<()> {
+    write(out, b"      ")?;
+    column(out, at as u64)?;
+    write(out, b"  ")?;
+    hex_cells(out, s, l, from)?;
+    write(out, b" |")?;
+    ascii(out, s)?;
+    write(out, b"|\n")
 }
 
 // The bytes that stand in the data from a position on, beside the list.
-fn rows(s: &[u8], l: &[u8], from: usize) {
+fn rows<W: Write>(out: &mut W, s: &[u8], l: &[u8], from: usize) -> io::Result<()> {
     let mut at = 0;
     while 16 < s.len() - at {
         let e = at + 16;
-        row(at, &s[at..e], l, behind(from, at));
+        row(out, at, &s[at..e], l, behind(from, at))?;
         at = e;
     }
-    row(at, &s[at..], l, behind(from, at));
+    row(out, at, &s[at..], l, behind(from, at))
 }
 
 // Nothing of no bytes.
-fn bytes(s: &[u8], l: &[u8], from: usize) {
+fn bytes<W: Write>(out: &mut W, s: &[u8], l: &[u8], from: usize) -> io::Result<()> {
     if s.len() == 0 {
-        return;
+        return Ok(());
     }
     let n = clip(MOST_BYTES, s);
-    rows(&s[..n], l, from);
+    rows(out, &s[..n], l, from)?;
     if n < s.len() {
-        write(b"             ... and ");
-        number((s.len() - n) as u64);
-        write(b" bytes more\n");
+        write(out, b"             ... and ")?;
+        number(out, (s.len() - n) as u64)?;
+        write(out, b" bytes more\n")?;
     }
+    Ok(())
 }
 
 // The outcome in words.
-fn name(outcome: u32) {
+fn name<W: Write>(out: &mut W, outcome: u32) -> io::Result<()> {
     match outcome {
-        0 => write(b" 0 done"),
-        1 => write(b" 1 bad buffer length"),
-        2 => write(b" 2 not well formed"),
-        3 => write(b" 3 malformed request or argument"),
-        4 => write(b" 4 offset before the start"),
-        5 => write(b" 5 wrong write enabler"),
-        7 => write(b" 7 reply space too short"),
-        8 => write(b" 8 test is false"),
-        9 => write(b" 9 no such lease"),
-        10 => write(b"10 sixty-four leases already"),
-        11 => write(b"11 no room"),
-        12 => write(b"12 already a container"),
-        13 => write(b"13 too many never-written stretches"),
-        16 => write(b"16 the list is not good"),
-        _ => number(outcome as u64),
+        0 => write(out, b" 0 done"),
+        1 => write(out, b" 1 bad buffer length"),
+        2 => write(out, b" 2 not well formed"),
+        3 => write(out, b" 3 malformed request or argument"),
+        4 => write(out, b" 4 offset before the start"),
+        5 => write(out, b" 5 wrong write enabler"),
+        7 => write(out, b" 7 reply space too short"),
+        8 => write(out, b" 8 test is false"),
+        9 => write(out, b" 9 no such lease"),
+        10 => write(out, b"10 sixty-four leases already"),
+        11 => write(out, b"11 no room"),
+        12 => write(out, b"12 already a container"),
+        13 => write(out, b"13 too many never-written stretches"),
+        16 => write(out, b"16 the list is not good"),
+        _ => number(out, outcome as u64),
     }
 }
 
-fn answer(x: Answer) {
-    name(x.number);
-    write(b", count ");
-    number(x.count);
+fn answer<W: Write>(out: &mut W, x: Answer) -> io::Result<()> {
+    name(out, x.number)?;
+    write(out, b", count ")?;
+    number(out, x.count)?;
     if x.number == 5 {
         let node = x.node;
-        write(b", node ");
-        hex_all(&node);
+        write(out, b", node ")?;
+        hex_all(out, &node)?;
     }
-    write(b"\n");
+    write(out, b"\n")
 }
 
-pub(crate) fn created(x: Answer) {
-    write(b"create          ");
-    answer(x);
+pub(crate) fn created<W: Write>(out: &mut W, x: Answer) -> io::Result<()> {
+    write(out, b"create          ")?;
+    answer(out, x)
 }
 
 // What kind of request it is, by its first byte.
-fn kind(q: &[u8]) {
+fn kind<W: Write>(out: &mut W, q: &[u8]) -> io::Result<()> {
     if q.len() == 0 {
-        write(b"empty request   ");
-        return;
+        return write(out, b"empty request   ");
     }
     let kind = Cursor::start().byte(q);
     let value = kind.value;
     match value {
-        1 => write(b"test-and-write  "),
-        2 => write(b"add a lease     "),
-        3 => write(b"renew a lease   "),
-        4 => write(b"cancel a lease  "),
-        5 => write(b"read            "),
-        _ => write(b"unknown kind    "),
+        1 => write(out, b"test-and-write  "),
+        2 => write(out, b"add a lease     "),
+        3 => write(out, b"renew a lease   "),
+        4 => write(out, b"cancel a lease  "),
+        5 => write(out, b"read            "),
+        _ => write(out, b"unknown kind    "),
     }
 }
 
-fn piece(i: usize, s: &[u8], l: &[u8], from: usize) {
-    write(b"    piece ");
-    number(i as u64);
-    write(b", length ");
-    number(s.len() as u64);
-    write(b"\n");
-    bytes(s, l, from);
+fn piece<W: Write>(out: &mut W, i: usize, s: &[u8], l: &[u8], from: usize) -> io::Result<()> {
+    write(out, b"    piece ")?;
+    number(out, i as u64)?;
+    write(out, b", length ")?;
+    number(out, s.len() as u64)?;
+    write(out, b"\n")?;
+    bytes(out, s, l, from)
 }
 
 // The pieces of a reply: a table of their lengths, then the pieces. Each stands in the data where the entry of the
 // request's table says, on data of a size.
-fn pieces(q: &[u8], t: Table, size: usize, r: &[u8], l: &[u8])
+fn pieces<W: Write>(
+    out: &mut W,
+    q: &[u8],
+    t: Table,
+    size: usize,
+    r: &[u8],
+    l: &[u8],
+) -> io::Result<()>
     requires { TableIn q.now t }
 {
     let n = t.count;
     if r.len() / LENGTH_SIZE < n {
-        return;
+        return Ok(());
     }
     let mut at = LENGTH_SIZE * n;
     let mut i = 0;
@@ -245,171 +253,193 @@ fn pieces(q: &[u8], t: Table, size: usize, r: &[u8], l: &[u8])
     while i < n {
         let k = octets::numbers::u32_at(r, LENGTH_SIZE * i) as usize;
         if r.len() - at < k {
-            return;
+            return Ok(());
         }
         let e = at + k;
         let entry = cursor.entry(q, t.stride);
         let place = resolve(entry.offset, size);
         i += 1;
-        piece(i, &r[at..e], l, place.position);
+        piece(out, i, &r[at..e], l, place.position)?;
         cursor = entry.next;
         at = e;
     }
+    Ok(())
 }
 
 // Test-and-write and read have a reply.
-fn reply(q: &[u8], size: usize, r: &[u8], l: &[u8]) {
+fn reply<W: Write>(out: &mut W, q: &[u8], size: usize, r: &[u8], l: &[u8]) -> io::Result<()> {
     match requests::forms::form_of(q) {
-        Form::TestWrite(t) => pieces(q, t.tests, size, r, l),
-        Form::Read(t) => pieces(q, t, size, r, l),
-        _ => {}
+        Form::TestWrite(t) => pieces(out, q, t.tests, size, r, l),
+        Form::Read(t) => pieces(out, q, t, size, r, l),
+        _ => Ok(()),
     }
 }
 
 // The answer and the reply to a request, beside the size of the data and the list as they were before it.
-pub(crate) fn applied(q: &[u8], x: Answer, r: &[u8], size: usize, l: &[u8]) {
-    kind(q);
-    answer(x);
+pub(crate) fn applied<W: Write>(
+    out: &mut W,
+    q: &[u8],
+    x: Answer,
+    r: &[u8],
+    size: usize,
+    l: &[u8],
+) -> io::Result<()> {
+    kind(out, q)?;
+    answer(out, x)?;
     let n = clip(x.count as usize, r);
     let number = x.number;
     match number {
-        0 => reply(q, size, &r[..n], l),
-        8 => reply(q, size, &r[..n], l),
-        _ => {}
+        0 => reply(out, q, size, &r[..n], l),
+        8 => reply(out, q, size, &r[..n], l),
+        _ => Ok(()),
     }
 }
 
 // The lease at p, if the place is not empty.
-fn lease(c: &[u8], p: usize, place: &[u8], i: usize)
+fn lease<W: Write>(out: &mut W, c: &[u8], p: usize, place: &[u8], i: usize) -> io::Result<()>
     requires { p + record_size ≤ length c.now }
 {
     let owner = octets::numbers::u32_at(c, p);
     if owner == 0 {
-        return;
+        return Ok(());
     }
-    write(b"    lease in ");
-    write(place);
-    number(i as u64);
-    write(b": owner ");
-    number(owner as u64);
-    write(b", expiry ");
-    number(octets::numbers::u32_at(c, p + EXPIRY_AT) as u64);
-    write(b"\n");
+    write(out, b"    lease in ")?;
+    write(out, place)?;
+    number(out, i as u64)?;
+    write(out, b": owner ")?;
+    number(out, owner as u64)?;
+    write(out, b", expiry ")?;
+    number(out, octets::numbers::u32_at(c, p + EXPIRY_AT) as u64)?;
+    write(out, b"\n")
 }
 
-fn leases(c: &[u8], from: usize, n: usize, place: &[u8])
+fn leases<W: Write>(out: &mut W, c: &[u8], from: usize, n: usize, place: &[u8]) -> io::Result<()>
     requires { from + record_size * n ≤ length c.now }
 {
     let mut i = 0;
     let mut p = from;
     while i < n {
         i += 1;
-        lease(c, p, place, i);
+        lease(out, c, p, place, i)?;
         p += RECORD_SIZE;
     }
+    Ok(())
 }
 
 // The sizes of a container's parts, in a buffer of n bytes.
-fn sizes(frame: Frame, n: usize)
+fn sizes<W: Write>(out: &mut W, frame: Frame, n: usize) -> io::Result<()>
     requires { (frame.offset ≤ limit) × (data_at + frame.size ≤ frame.offset) × (frame.extras ≤ lease_limit) }
 {
-    write(b"the container   data size ");
-    number(frame.size as u64);
-    write(b", slack ");
-    number((frame.offset - frame.data_end()) as u64);
-    write(b", used ");
-    number(frame.used() as u64);
-    write(b" of ");
-    number(n as u64);
-    write(b" bytes\n");
+    write(out, b"the container   data size ")?;
+    number(out, frame.size as u64)?;
+    write(out, b", slack ")?;
+    number(out, (frame.offset - frame.data_end()) as u64)?;
+    write(out, b", used ")?;
+    number(out, frame.used() as u64)?;
+    write(out, b" of ")?;
+    number(out, n as u64)?;
+    write(out, b" bytes\n")
 }
 
 // The data beside its list. A list that is not good marks no byte.
-fn data(d: &[u8], l: &[u8]) {
+fn data<W: Write>(out: &mut W, d: &[u8], l: &[u8]) -> io::Result<()> {
     if lists::list::list_ok(l, d) {
-        bytes(d, l, 0);
-        listing::show(l);
-        return;
+        bytes(out, d, l, 0)?;
+        return listing::show(out, l);
     }
-    bytes(d, b"", 0);
-    write(b"    the list is not good\n");
+    bytes(out, d, b"", 0)?;
+    write(out, b"    the list is not good\n")
 }
 
-fn parts(c: &[u8], frame: Frame, l: &[u8])
+fn parts<W: Write>(out: &mut W, c: &[u8], frame: Frame, l: &[u8]) -> io::Result<()>
     requires { Known c.now frame }
 {
     let extras = frame.extras;
-    sizes(frame, c.len());
-    data(container::data::data_of(c), l);
-    leases(c, LEASES_AT, FIXED_PLACES, b"place ");
+    sizes(out, frame, c.len())?;
+    data(out, container::data::data_of(c), l)?;
+    leases(out, c, LEASES_AT, FIXED_PLACES, b"place ")?;
     let shown = lesser(extras, MOST_EXTRAS);
-    leases(c, frame.extras_at(), shown, b"extra ");
+    leases(out, c, frame.extras_at(), shown, b"extra ")?;
     if shown < extras {
-        write(b"    ... and ");
-        number((extras - shown) as u64);
-        write(b" extra places more\n");
+        write(out, b"    ... and ")?;
+        number(out, (extras - shown) as u64)?;
+        write(out, b" extra places more\n")?;
     }
+    Ok(())
 }
 
 // What a container holds at its end.
-pub(crate) fn container(c: &[u8], l: &[u8]) {
+pub(crate) fn container<W: Write>(out: &mut W, c: &[u8], l: &[u8]) -> io::Result<()> {
     match format::judging::judge(c) {
-        Judged::BadLength => write(b"the container   none: the buffer's length is not allowed\n"),
-        Judged::Malformed => write(b"the container   none: the buffer is not well formed\n"),
-        Judged::Formed(frame) => parts(c, frame, l),
+        Judged::BadLength => write(
+            out,
+            b"the container   none: the buffer's length is not allowed\n",
+        ),
+        Judged::Malformed => write(
+            out,
+            b"the container   none: the buffer is not well formed\n",
+        ),
+        Judged::Formed(frame) => parts(out, c, frame, l),
     }
 }
 
-fn share_part(name: &[u8], part: &[u8]) {
-    write(name);
-    number(part.len() as u64);
+fn share_part<W: Write>(out: &mut W, name: &[u8], part: &[u8]) -> io::Result<()> {
+    write(out, name)?;
+    number(out, part.len() as u64)
 }
 
 // The parts of a share, in one order for both editions; only MDMF has spare bytes.
-fn share_parts(c: &[u8], edition: u32) {
-    share_part(b" share: key ", shares::share::container_key(c));
-    share_part(b", signature ", shares::share::container_signature(c));
-    share_part(b", chain ", shares::share::container_chain(c));
-    share_part(b", tree ", shares::share::container_tree(c));
-    share_part(b", share data ", shares::share::container_share_data(c));
-    share_part(b", private key ", shares::share::container_private_key(c));
+fn share_parts<W: Write>(out: &mut W, c: &[u8], edition: u32) -> io::Result<()> {
+    share_part(out, b" share: key ", shares::share::container_key(c))?;
+    share_part(out, b", signature ", shares::share::container_signature(c))?;
+    share_part(out, b", chain ", shares::share::container_chain(c))?;
+    share_part(out, b", tree ", shares::share::container_tree(c))?;
+    share_part(
+        out,
+        b", share data ",
+        shares::share::container_share_data(c),
+    )?;
+    share_part(
+        out,
+        b", private key ",
+        shares::share::container_private_key(c),
+    )?;
     if edition == MDMF {
-        share_part(b", spare ", shares::share::container_spare(c));
+        share_part(out, b", spare ", shares::share::container_spare(c))?;
     }
-    write(b" bytes\n");
+    write(out, b" bytes\n")
 }
 
-fn edition_name(edition: u32) {
+fn edition_name<W: Write>(out: &mut W, edition: u32) -> io::Result<()> {
     if edition == MDMF {
-        write(b"MDMF");
+        write(out, b"MDMF")
     } else {
-        write(b"SDMF");
+        write(out, b"SDMF")
     }
 }
 
 // A refusal as a share. 22 is of neither edition.
-fn no_share(outcome: u32, edition: u32) {
-    write(b"    no ");
+fn no_share<W: Write>(out: &mut W, outcome: u32, edition: u32) -> io::Result<()> {
+    write(out, b"    no ")?;
     if outcome != 22 {
-        edition_name(edition);
-        write(b" ");
+        edition_name(out, edition)?;
+        write(out, b" ")?;
     }
-    write(b"share: outcome ");
-    number(outcome as u64);
-    write(b"\n");
+    write(out, b"share: outcome ")?;
+    number(out, outcome as u64)?;
+    write(out, b"\n")
 }
 
 // The share in a container's data; data too short for a share's header is passed over.
-pub(crate) fn share(c: &[u8]) {
+pub(crate) fn share<W: Write>(out: &mut W, c: &[u8]) -> io::Result<()> {
     let checked = shares::share::check_container(c);
     if checked.number == 0 {
-        write(b"    an ");
-        edition_name(checked.edition);
-        share_parts(c, checked.edition);
-        return;
+        write(out, b"    an ")?;
+        edition_name(out, checked.edition)?;
+        return share_parts(out, c, checked.edition);
     }
     if checked.number < 22 {
-        return;
+        return Ok(());
     }
-    no_share(checked.number, checked.edition);
+    no_share(out, checked.number, checked.edition)
 }
