@@ -63,27 +63,40 @@ fn made() -> Result<PathBuf, String> {
         .ancestors()
         .nth(2)
         .expect("the crate lies in node/ in the repository");
-    for source in ["crates", "crates.txt"] {
-        println!("cargo:rerun-if-changed={}", root.join(source).display());
+    for source in sources(root) {
+        println!("cargo:rerun-if-changed={}", source.display());
     }
-    let status = Command::new("rt")
-        .args(["staticlib", "beamsatchel"])
-        .current_dir(root)
-        .status();
+    let folder = root.join("crates/beamsatchel");
+    let status = Command::new("rt").arg("lib").current_dir(&folder).status();
     let status = status.map_err(|error| match error.kind() {
-        ErrorKind::NotFound => format!(
+        // A folder to run it in that is missing gives the same error.
+        ErrorKind::NotFound if folder.is_dir() => format!(
             "the command `rt` is not on the PATH: install the Rattle kit, or set {ARCHIVE_VARIABLE} to a \
-             libbeamsatchel.a that was made elsewhere by `rt staticlib beamsatchel`"
+             libbeamsatchel.a that was made elsewhere by `rt lib` in crates/beamsatchel"
         ),
-        _ => format!("cannot run rt: {error}"),
+        _ => format!(
+            "cannot run rt in {} ({error}): set {ARCHIVE_VARIABLE} to a libbeamsatchel.a that was made elsewhere",
+            folder.display()
+        ),
     })?;
     if !status.success() {
         return Err(format!(
-            "`rt staticlib beamsatchel` in {} failed ({status}); see above",
-            root.display()
+            "`rt lib` in {} failed ({status}); see above",
+            folder.display()
         ));
     }
-    Ok(root.join("target/staticlib/libbeamsatchel.a"))
+    Ok(folder.join("out/libbeamsatchel.a"))
+}
+
+/// What the archive is made from. What `rt` makes lies beside it, in each crate's `out/`, and changes with each run.
+fn sources(root: &Path) -> Vec<PathBuf> {
+    let crates = fs::read_dir(root.join("crates")).into_iter().flatten();
+    let parts = crates.flatten().flat_map(|entry| {
+        let folder = entry.path();
+        ["src", "specs", "proofs"].map(|part| folder.join(part))
+    });
+    let there = parts.filter(|part| part.is_dir());
+    there.chain([root.join("crates.txt")]).collect()
 }
 
 /// Ends the build with a message, and without a backtrace.

@@ -49,14 +49,14 @@
 //!
 //! # The archive
 //!
-//! The build links `target/staticlib/libbeamsatchel.a` of the repository. It runs `rt staticlib beamsatchel` to make
-//! it, at first and whenever a source has changed; cargo tells that by the files' times, as for sources in Rust. From
-//! nothing that takes minutes, in which cargo shows nothing. On a machine without the Rattle kit, `BEAMSATCHEL_ARCHIVE`
-//! names an archive that was made elsewhere, of the same version as this crate; a relative path is relative to where
-//! cargo is started. One of another version may link all the same, and goes by its own version's rules: only a program
-//! that calls what it lacks does not link. One before 0.7 knows no MDMF and has other names for what checks and writes
-//! shares, so that a program that opens a container, or checks or writes a share, does not link with it. One before 0.8
-//! knows no list, so that a program that uses lists does not link with it.
+//! The build links `crates/beamsatchel/out/libbeamsatchel.a` of the repository. It runs `rt lib` in
+//! `crates/beamsatchel` to make it, at first and whenever a source has changed; cargo tells that by the files' times,
+//! as for sources in Rust. From nothing that takes minutes, in which cargo shows nothing. On a machine without the
+//! Rattle kit, `BEAMSATCHEL_ARCHIVE` names an archive that was made elsewhere, of the same version as this crate; a
+//! relative path is relative to where cargo is started. One of another version may link all the same, and goes by its
+//! own version's rules: only a program that calls what it lacks does not link. One before 0.7 knows no MDMF and has
+//! other names for what checks and writes shares, so that a program that opens a container, or checks or writes a
+//! share, does not link with it. One before 0.8 knows no list, so that a program that uses lists does not link with it.
 
 #![warn(missing_docs)]
 
