@@ -4,7 +4,7 @@
 
 mod mdmf;
 mod sdmf;
-mod writing;
+mod writers;
 
 use octets::{moves, numbers};
 use shares::share;
@@ -118,5 +118,5 @@ fn main(rt: HostRuntime) -> io::Result<()> {
     let mut out = rt.stdout();
     sdmf::run(&mut out)?;
     mdmf::run(&mut out)?;
-    writing::run(&mut out)
+    writers::run(&mut out)
 }
