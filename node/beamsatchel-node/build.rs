@@ -67,12 +67,15 @@ fn made() -> Result<PathBuf, String> {
         println!("cargo:rerun-if-changed={}", source.display());
     }
     let folder = root.join("crates/beamsatchel");
-    let status = Command::new("rt").arg("lib").current_dir(&folder).status();
+    let status = Command::new("rt")
+        .args(["lib", "--cpu", "x86-64"])
+        .current_dir(&folder)
+        .status();
     let status = status.map_err(|error| match error.kind() {
         // A folder to run it in that is missing gives the same error.
         ErrorKind::NotFound if folder.is_dir() => format!(
             "the command `rt` is not on the PATH: install the Rattle kit, or set {ARCHIVE_VARIABLE} to a \
-             libbeamsatchel.a that was made elsewhere by `rt lib` in crates/beamsatchel"
+             libbeamsatchel.a that was made elsewhere by `rt lib --cpu x86-64` in crates/beamsatchel"
         ),
         _ => format!(
             "cannot run rt in {} ({error}): set {ARCHIVE_VARIABLE} to a libbeamsatchel.a that was made elsewhere",
@@ -81,7 +84,7 @@ fn made() -> Result<PathBuf, String> {
     })?;
     if !status.success() {
         return Err(format!(
-            "`rt lib` in {} failed ({status}); see above",
+            "`rt lib --cpu x86-64` in {} failed ({status}); see above",
             folder.display()
         ));
     }

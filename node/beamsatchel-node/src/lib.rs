@@ -49,7 +49,7 @@
 //!
 //! # The archive
 //!
-//! The build links `crates/beamsatchel/out/libbeamsatchel.a` of the repository. It runs `rt lib` in
+//! The build links `crates/beamsatchel/out/libbeamsatchel.a` of the repository. It runs `rt lib --cpu x86-64` in
 //! `crates/beamsatchel` to make it, at first and whenever a source has changed; cargo tells that by the files' times,
 //! as for sources in Rust. From nothing that takes minutes, in which cargo shows nothing. On a machine without the
 //! Rattle kit, `BEAMSATCHEL_ARCHIVE` names an archive that was made elsewhere, of the same version as this crate; a
