@@ -1285,6 +1285,10 @@ fn the_slot_is_not_overwritten() {
         assert_eq!(ends(output.unwrap()), (String::new(), complaint, 2));
         assert!([&slot, &list].map(|file| fs::read(file).unwrap()) == old);
     }
+    // The gate takes no link anywhere below the repository's top.
+    for name in ["soft slot", "soft list"] {
+        fs::remove_file(place("itself", name)).unwrap();
+    }
 }
 
 /// Where the picture cannot be written whole, the old one stays, and nothing else.
@@ -1373,6 +1377,7 @@ fn where_the_picture_goes() {
     let complaint =
         format!("beamsatchel-chart: {missing:?}: No such file or directory (os error 2)\n");
     assert_eq!(draw_to(missing.as_os_str()), (String::new(), complaint, 2));
+    fs::remove_file(link).unwrap();
 }
 
 #[test]
