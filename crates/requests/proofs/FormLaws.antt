@@ -1,8 +1,15 @@
 -- What the tests of a request's form say, and the form that they leave. Assumes nothing.
-use mathlib.Core.Path.{◌≡◌, refl, sym, ap, ◌∙◌}
+use mathlib.Core.Path.{◌≡◌, refl, sym, ap, subst, ◌∙◌}
 use mathlib.Core.Bool.{Bool, true, false, cond, not, ◌&&◌}
 use mathlib.Core.List.{List, [], ◌∷◌}
 use mathlib.Core.Option.{Option, none, some}
+use Rattle.std.specs.Prelude.{Option as Maybe, Some, None, Result, Ok, Err, ◌⊎◌}
+use Rattle.std.proofs.Common.{inl, inr}
+use Rattle.std.specs.Result.{result_ok}
+use Rattle.requests.specs.declared.cursors.Next.{Next}
+use Rattle.requests.specs.declared.kinds.Kind.{Kind}
+use Rattle.requests.specs.declared.kinds.NoKind.{NoKind}
+use Rattle.requests.specs.Kinds.{Names, kind_byte}
 use Prim.Native.Nat.{ℕ, zero, suc, ◌+◌, ◌*◌, ◌-◌, ◌≤◌, ◌<◌}
 use native.Mathlib.Omega.{arith}
 use native.Mathlib.Nat.{mul-suc}
@@ -17,8 +24,7 @@ use Rattle.requests.specs.declared.cursors.ReadHeader.{ReadHeader}
 use Rattle.requests.specs.declared.forms.Form.{Form}
 use Rattle.requests.specs.declared.forms.TestsPassed.{TestsPassed}
 use Rattle.requests.specs.declared.forms.WritesPassed.{WritesPassed}
-use Rattle.requests.specs.declared.forms.Form.TheVariants.{Broken, Add, Renew, Cancel}
-use Rattle.requests.specs.declared.forms.Form.TheVariants.{Read as ReadForm}
+use Rattle.requests.specs.declared.forms.Form.TheVariants.{Add, Renew, Cancel}
 use Rattle.octets.specs.Facts.{Octets}
 use Rattle.rules.specs.Requests.{all_from, by_kind, cut_of, cut_ok, entry_count, entry_size, request_limit, specimens_at}
 use Rattle.rules.specs.Requests.{sum_from, test_count, test_entry_ok, test_size, test_write_end, test_write_of, test_write_ok}
@@ -26,9 +32,10 @@ use Rattle.rules.specs.Requests.{writes_at, Request, entry_limit, entry_specimen
 use Rattle.rules.specs.Requests.{write_count, cut_flag, entry_opcode, new_length, padding_at, add_ok, cancel_ok, read_count}
 use Rattle.rules.specs.Requests.{entry_ok}
 use Rattle.rules.specs.Requests.{read_ok, reads_at, renew_ok, request_of, kind_of}
-use Rattle.requests.specs.Cursors.{body_at, record_at, header_at, read_header_at}
+use Rattle.requests.specs.Cursors.{byte_at, body_at, record_at, header_at, read_header_at}
+use Rattle.std.specs.Bool.{then_some}
 use Rattle.octets.specs.Lists.{is_some}
-use Rattle.requests.specs.Forms.{parted_as, tests_passed, writes_passed, Inside, Takes, asked, cut_in}
+use Rattle.requests.specs.Forms.{parted_as, tests_passed, writes_passed, form_of_read, FormIn, Takes, asked, cut_in}
 use Rattle.octets.proofs.ListLaws.{both, and_assoc, and-true, by_refuting}
 use Rattle.requests.proofs.CursorLaws.{count_below, specimen_below}
 use Rattle.format.specs.Layout.{secret_size, owner_of, expiry_of, renewal_of, expiry_at, renewal_at, record_size}
@@ -156,16 +163,16 @@ cut-some zero new h = absurd (h refl)
 cut-some (suc zero) new h = refl
 cut-some (suc (suc n)) new h = rw (lt-leb (suc (suc n)) 1 (omega arith), ne_eqb (suc (suc n)) 1 (λ e. omega arith))
 
-pub cut_is : (flag new : ℕ) → cut_in (record { set = not (eqb flag 0); length = new }) ≡ cut_of flag new
+pub cut_is : (flag new : ℕ) → cut_in (then_some (not (eqb flag 0)) new) ≡ cut_of flag new
 unfolding cut_of
 cut_is flag new = go (eqb flag 0)
   where
-    go : (b : Bool) → cond (not b) (some new) none ≡ cond b none (some new)
+    go : (b : Bool) → cut_in (then_some (not b) new) ≡ cond b none (some new)
     go true = refl
     go false = refl
 
 -- ---- forms
-pub takes_broken : (q : List ℕ) (w : Option Request) → w ≡ none → Takes q w Broken
+pub takes_broken : (q : List ℕ) (w : Option Request) → w ≡ none → Takes q w None
 unfolding is_some
 takes_broken q w e = record { number = rw e; asks = sym e; inside = tt }
 
@@ -196,7 +203,7 @@ table_true : (q : List ℕ) → TableFacts q → test_write_ok q ≡ true
 unfolding test_write_ok
 table_true q h = rw (le-leb _ _ h.tests, le-leb _ _ h.writes, h.cut, eq-eqb _ _ h.ends, h.entries)
 
-pub no_table : (q : List ℕ) → (TableFacts q → ⊥) → Takes q (by_kind 1 q) Broken
+pub no_table : (q : List ℕ) → (TableFacts q → ⊥) → Takes q (by_kind 1 q) None
 unfolding by_kind
 no_table q k = takes_broken q _ (rw (by_refuting (test_write_ok q) (λ e. k (table_facts q e))))
 
@@ -236,11 +243,11 @@ placed_at q =
     })
     (record { at = tests_at }) (record { at = writes_at q }) (record { at = specimens_at q }) (record { at = new_data_at q })
 
-asked-placed : (q : List ℕ) → asked q (placed_at q) ≡ some (test_write_of q)
+asked-placed : (q : List ℕ) → asked q (Some (placed_at q)) ≡ some (test_write_of q)
 unfolding test_write_of
 asked-placed q = rw (cut_is (cut_flag q) (new_length q))
 
-inside-placed : (q : List ℕ) → TableFacts q → length q ≤ request_limit → Inside q (placed_at q)
+inside-placed : (q : List ℕ) → TableFacts q → length q ≤ request_limit → FormIn q (placed_at q)
 inside-placed q f s =
     let m = table_places q in
     let e = f.ends in
@@ -304,7 +311,7 @@ module _ {q : List ℕ} {x : Header} {e : Body} {t : TestsPassed} {w : WritesPas
 
   pub taken : (b : Body) (r : Form) → b ≡ body_at w.next.at t.length → r
       ≡ parted_as x e.next t.next w.next b.next
-      → TableFacts q → length q ≤ request_limit → Takes q (by_kind 1 q) r
+      → TableFacts q → length q ≤ request_limit → Takes q (by_kind 1 q) (Some r)
   unfolding by_kind is_some
   taken b r k e f s =
       rw (e ∙ placed_is b k)
@@ -339,7 +346,7 @@ read-true : (q : List ℕ) → ReadFacts q → read_ok q ≡ true
 unfolding read_ok
 read-true q h = rw (le-leb _ _ h.reads, h.first, h.second, eq-eqb _ _ h.ends)
 
-pub no_read : (q : List ℕ) → (ReadFacts q → ⊥) → Takes q (by_kind 5 q) Broken
+pub no_read : (q : List ℕ) → (ReadFacts q → ⊥) → Takes q (by_kind 5 q) None
 unfolding by_kind
 no_read q k = takes_broken q _ (rw (by_refuting (read_ok q) (λ e. k (read_facts q e))))
 
@@ -355,7 +362,7 @@ read_header_is q p x k e = rw e (rw k (record { reads = refl; first = refl; seco
 
 pub read_taken : (q : List ℕ) (x : ReadHeader) (a n : ℕ) → ReadHeaderIs q x → ReadFacts q → a ≡ x.next.at → n
     ≡ x.reads
-    → Takes q (by_kind 5 q) (ReadForm (record { first = record { at = a }; count = n; stride = entry_size }))
+    → Takes q (by_kind 5 q) (form_of_read (Some (record { first = record { at = a }; count = n; stride = entry_size })))
 unfolding by_kind is_some
 read_taken q x a n h f ea en =
     let i : a ≡ reads_at = ea ∙ h.next in
@@ -377,11 +384,11 @@ owner_is : (q : List ℕ) → held (drop 1 q) ≡ not (eqb (number_at 4 1 q) 0)
 unfolding held owner_of number_at
 owner_is q = refl
 
-pub add-length : (q : List ℕ) → (length q ≡ 1 + record_size → ⊥) → Takes q (by_kind 2 q) Broken
+pub add-length : (q : List ℕ) → (length q ≡ 1 + record_size → ⊥) → Takes q (by_kind 2 q) None
 unfolding by_kind add_ok
 add-length q h = takes_broken q _ (rw (ne_eqb _ _ h))
 
-pub add_unowned : (q : List ℕ) → length q ≡ 1 + record_size → number_at 4 1 q ≡ 0 → Takes q (by_kind 2 q) Broken
+pub add_unowned : (q : List ℕ) → length q ≡ 1 + record_size → number_at 4 1 q ≡ 0 → Takes q (by_kind 2 q) None
 unfolding by_kind add_ok
 add_unowned q l h = takes_broken q _ (rw (eq-eqb _ _ l, owner_is q, h))
 
@@ -395,7 +402,7 @@ unfolding expiry_of number_at
 expiry_here q = ap (λ (s : List ℕ). number (take 4 s)) (sym (drop-drop expiry_at 1 q))
 
 pub add_taken : (q : List ℕ) (x : Record) → length q ≡ 1 + record_size → (number_at 4 1 q ≡ 0 → ⊥) → x ≡ record_at 1 q
-    → Takes q (by_kind 2 q) (Add x)
+    → Takes q (by_kind 2 q) (Some (Add x))
 unfolding by_kind add_ok is_some
 add_taken q x l h e =
     let o : held (drop 1 q) ≡ true = owner_is q ∙ rw (ne_eqb _ _ h) in
@@ -412,22 +419,22 @@ add_taken q x l h e =
       };
     })
 
-pub renew-length : (q : List ℕ) → (length q ≡ 1 + secret_size + 4 → ⊥) → Takes q (by_kind 3 q) Broken
+pub renew-length : (q : List ℕ) → (length q ≡ 1 + secret_size + 4 → ⊥) → Takes q (by_kind 3 q) None
 unfolding by_kind renew_ok
 renew-length q h = takes_broken q _ (rw (ne_eqb _ _ h))
 
 pub renew_taken : (q : List ℕ) (p x : ℕ) → length q ≡ 1 + secret_size + 4 → p ≡ 1
-    → x ≡ number_at 4 (1 + secret_size) q → Takes q (by_kind 3 q) (Renew (record { at = p }) x)
+    → x ≡ number_at 4 (1 + secret_size) q → Takes q (by_kind 3 q) (Some (Renew (record { at = p }) x))
 unfolding by_kind renew_ok is_some
 renew_taken q p x l e f =
     rw (e, f) (record { number = rw (eq-eqb _ _ l); asks = rw (eq-eqb _ _ l); inside = omega arith })
 
-pub cancel-length : (q : List ℕ) → (length q ≡ 1 + secret_size → ⊥) → Takes q (by_kind 4 q) Broken
+pub cancel-length : (q : List ℕ) → (length q ≡ 1 + secret_size → ⊥) → Takes q (by_kind 4 q) None
 unfolding by_kind cancel_ok
 cancel-length q h = takes_broken q _ (rw (ne_eqb _ _ h))
 
 pub cancel_taken : (q : List ℕ) (p : ℕ) → length q ≡ 1 + secret_size → p ≡ 1
-    → Takes q (by_kind 4 q) (Cancel (record { at = p }))
+    → Takes q (by_kind 4 q) (Some (Cancel (record { at = p })))
 unfolding by_kind cancel_ok is_some
 cancel_taken q p l e =
     rw e (record {
@@ -437,22 +444,54 @@ cancel_taken q p l e =
     })
 
 -- ---- by the first byte
-pub by_kind_lem : (q : List ℕ) (k : ℕ) (r : Form) → length q ≤ request_limit → k ≡ get_or q 0 0 → Takes q (by_kind k q) r
+pub by_kind_lem : (q : List ℕ) (k : ℕ) (r : Maybe Form) → length q ≤ request_limit → k ≡ get_or q 0 0 → Takes q (by_kind k q) r
     → Takes q (request_of q) r
 unfolding request_of kind_of
 by_kind_lem q k r l e t = rw (le-leb _ _ l, ← e) t
 
-pub too_long : (q : List ℕ) → request_limit < length q → Takes q (request_of q) Broken
+pub too_long : (q : List ℕ) → request_limit < length q → Takes q (request_of q) None
 unfolding request_of
 too_long q l = takes_broken q _ (rw (lt-leb _ _ l))
 
-pub unknown_kind : (q : List ℕ) (k : ℕ) → (k ≡ 1 → ⊥) → (k ≡ 2 → ⊥) → (k ≡ 3 → ⊥) → (k ≡ 4 → ⊥) → (k ≡ 5 → ⊥)
-    → Takes q (by_kind k q) Broken
+unknown_kind : (q : List ℕ) (k : ℕ) → (k ≡ 0) ⊎ (5 < k) → by_kind k q ≡ none
 unfolding by_kind
-unknown_kind q k a b c d e =
-    takes_broken q _ (rw (ne_eqb _ _ a, ne_eqb _ _ b, ne_eqb _ _ c, ne_eqb _ _ d, ne_eqb _ _ e))
+unknown_kind q k (inl e) = rw e
+unknown_kind q k (inr h) = rw (
+  ne_eqb k 1 (λ e. omega arith),
+  ne_eqb k 2 (λ e. omega arith),
+  ne_eqb k 3 (λ e. omega arith),
+  ne_eqb k 4 (λ e. omega arith),
+  ne_eqb k 5 (λ e. omega arith),
+)
 
-pub empty_kind : (q : List ℕ) → length q ≡ 0 → Takes q (request_of q) Broken
+-- The first byte and the cursor behind it, and the kind that the byte names.
+module _ (q : List ℕ) (b : Next ℕ) {p : ℕ} (z : p ≡ 0) (e : b ≡ byte_at p q) where
+  first_is : b ≡ byte_at 0 q
+  first_is = e ∙ ap (λ (x : ℕ). byte_at x q) z
+
+  pub begins_at : b.next.at ≡ 1
+  begins_at = ap (λ (x : Next ℕ). x.next.at) first_is
+
+  byte_is : b.value ≡ get_or q 0 0
+  byte_is = ap (λ (x : Next ℕ). x.value) first_is
+
+  module _ (l : length q ≤ request_limit) (n : Result Kind NoKind) (h : Names b.value n) where
+    pub takes_kind : (k : Kind) (r : Maybe Form) → result_ok n ≡ Some k → Takes q (by_kind (kind_byte k) q) r
+        → Takes q (request_of q) r
+    takes_kind k r o t = by_kind_lem q (kind_byte k) r l (named n h o ∙ byte_is) t
+      where
+        named : (m : Result Kind NoKind) → Names b.value m → result_ok m ≡ Some k → kind_byte k ≡ b.value
+        named (Ok j) g i = let j_is : j ≡ k = cc in subst (λ (x : Kind). kind_byte x ≡ b.value) j_is g
+        named (Err y) g i = cc
+
+    pub takes_none : result_ok n ≡ None → Takes q (request_of q) None
+    takes_none o = by_kind_lem q b.value None l byte_is (takes_broken q _ (go n h o))
+      where
+        go : (m : Result Kind NoKind) → Names b.value m → result_ok m ≡ None → by_kind b.value q ≡ none
+        go (Ok j) g i = cc
+        go (Err y) g i = unknown_kind q b.value g
+
+pub empty_kind : (q : List ℕ) → length q ≡ 0 → Takes q (request_of q) None
 unfolding request_of kind_of by_kind
 empty_kind [] e = takes_broken [] none refl
 empty_kind (x ∷ q) e = absurd (omega arith)

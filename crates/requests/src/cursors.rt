@@ -28,16 +28,11 @@ pub struct Cursor {
     pub at: usize,
 }
 
+// A value that was read, and the cursor behind it.
 #[derive(Clone, Copy)]
-pub struct Byte {
-    pub value: u8,
+pub struct Next<T> {
+    pub value: T,
     pub next: Cursor,
-}
-
-#[derive(Clone, Copy)]
-pub(crate) struct Number {
-    pub(crate) value: u32,
-    pub(crate) next: Cursor,
 }
 
 // A run of bytes: where it begins and ends.
@@ -113,26 +108,25 @@ impl Cursor {
         Cursor { at: 0 }
     }
 
-    pub fn byte(self, q: &[u8]) -> Byte
+    pub fn byte(self, q: &[u8]) -> Next<u8>
         requires { self.at + 1 ≤ length q.now }
         ensures { result ≡ byte_at self.at q.now }
     {
         let at = self.at;
-        Byte {
+        Next {
             value: q[at],
             next: Cursor { at: at + 1 },
         }
     }
 
     // An unsigned number of 4 bytes.
-    pub(crate) fn number(self, q: &[u8]) -> Number
+    pub(crate) fn number(self, q: &[u8]) -> Next<u32>
         requires { self.at + 4 ≤ length q.now }
         ensures { result ≡ number_in self.at q.now }
     {
         let at = self.at;
-        let value = octets::numbers::u32_at(q, at);
-        Number {
-            value: value,
+        Next {
+            value: octets::numbers::u32_at(q, at),
             next: Cursor { at: at + 4 },
         }
     }

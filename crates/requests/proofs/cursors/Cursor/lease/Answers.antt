@@ -1,13 +1,13 @@
 -- Each field where the one before ends.
 use mathlib.Core.Path.{◌≡◌, ap}
-use Prim.Native.Nat.{◌+◌}
+use Prim.Native.Nat.{ℕ, ◌+◌}
 use native.Mathlib.Omega.{arith}
 use Rattle.format.specs.Layout.{renewal_at}
-use Rattle.requests.specs.declared.cursors.Number.{Number}
+use Rattle.requests.specs.declared.cursors.Next.{Next}
 use Rattle.requests.proofs.cursors.Cursor.lease.Goals as goal
 
 pub number-expiry-requires : goal.number-expiry-requires
-number-expiry-requires c = let e = ap (λ (x : Number). x.next.at) c.number-owner.ensures in omega (arith, e)
+number-expiry-requires c = let e = ap (λ (x : Next ℕ). x.next.at) c.number-owner.ensures in omega (arith, e)
 
 pub returns : goal.returns
 returns c =

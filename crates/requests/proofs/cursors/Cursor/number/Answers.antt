@@ -2,4 +2,4 @@
 use Rattle.requests.proofs.cursors.Cursor.number.Goals as goal
 
 pub returns : goal.returns
-returns c = rw c.u32_at-value.ensures
+returns c = rw c.u32_at.ensures
