@@ -2,7 +2,7 @@
 -- means. Assumes nothing.
 use mathlib.Core.Path.{◌≡◌, refl, sym, ap, ◌∙◌}
 use mathlib.Core.Bool.{Bool, true, false, cond, not, ◌&&◌}
-use mathlib.Core.Option.{none, some}
+use Rattle.std.specs.Prelude.{Option, Some, None, Result, Ok, Err}
 use mathlib.Core.List.{List, [], ◌∷◌}
 use Prim.Native.Nat.{ℕ, zero, suc, ◌+◌, ◌*◌, ◌-◌, ◌≤◌, ◌<◌}
 use native.Mathlib.Omega.{arith}
@@ -25,8 +25,7 @@ use Rattle.format.proofs.RoundTrip.{extra_leases}
 use Rattle.octets.specs.Lists.{every}
 use Rattle.octets.specs.Rows.{first_row, row}
 use Rattle.format.specs.declared.layout.Frame.{Frame}
-use Rattle.format.specs.declared.judging.Judged.TheVariants.{BadLength, Malformed, Formed}
-use Rattle.format.specs.declared.judging.Fields.TheVariants.{Disagree, Agree}
+use Rattle.format.specs.declared.judging.Flaw.TheVariants.{BadLength, Malformed}
 
 -- ---- one record, by its owner as it stands in the buffer
 owner_at : (p : ℕ) (c : List ℕ) → owner_of (take record_size (drop p c)) ≡ number_at 4 p c
@@ -158,56 +157,56 @@ pub known_most : (c : List ℕ) (f : Frame) → Known c f → length c ≤ limit
 known_most c f k = (formed_facts c k.formed).most
 
 -- ---- what `find_fields` tells its caller
-pub found_agree : (c : List ℕ) (f : Frame) → Agree f ≡ fields_found c → Framed c f
+pub found_agree : (c : List ℕ) (f : Frame) → Some f ≡ fields_found c → Framed c f
 found_agree c f p = go (fields_ok c) refl p
   where
-    go : (t : Bool) → fields_ok c ≡ t → Agree f ≡ cond t (Agree (frame_of c)) Disagree → Framed c f
+    go : (t : Bool) → fields_ok c ≡ t → Some f ≡ cond t (Some (frame_of c)) None → Framed c f
     go true h q = record { is = cc; agree = h }
     go false h q = absurd (let z : ◌≡◌ {A = ℕ} 0 1 = cc in omega arith)
 
-pub found_disagree : (c : List ℕ) → Disagree ≡ fields_found c → fields_ok c ≡ false
+pub found_disagree : (c : List ℕ) → None ≡ fields_found c → fields_ok c ≡ false
 found_disagree c p = go (fields_ok c) refl p
   where
-    go : (t : Bool) → fields_ok c ≡ t → Disagree ≡ cond t (Agree (frame_of c)) Disagree → fields_ok c ≡ false
+    go : (t : Bool) → fields_ok c ≡ t → None ≡ cond t (Some (frame_of c)) None → fields_ok c ≡ false
     go true h q = absurd (let z : ◌≡◌ {A = ℕ} 0 1 = cc in omega arith)
     go false h q = h
 
 -- ---- what `judge` answers
-pub judge_length : (c : List ℕ) → length_allowed c ≡ false → Judges c BadLength
+pub judge_length : (c : List ℕ) → length_allowed c ≡ false → Judges c (Err BadLength)
 unfolding first_row
 judge_length c h = record { number = rw h; frame = rw (length_unformed c h) }
 
-unformed : (c : List ℕ) → length_allowed c ≡ true → well_formed c ≡ false → Judges c Malformed
+unformed : (c : List ℕ) → length_allowed c ≡ true → well_formed c ≡ false → Judges c (Err Malformed)
 unfolding first_row
 unformed c h k = record { number = rw (h, k); frame = rw k }
 
-pub judge_fields : (c : List ℕ) → length_allowed c ≡ true → fields_ok c ≡ false → Judges c Malformed
+pub judge_fields : (c : List ℕ) → length_allowed c ≡ true → fields_ok c ≡ false → Judges c (Err Malformed)
 unfolding well_formed
 judge_fields c h k = unformed c h (rw (h, k))
 
-module _ (c : List ℕ) (f : Frame) (l : length_allowed c ≡ true) (found : Agree f ≡ fields_found c) where
+module _ (c : List ℕ) (f : Frame) (l : length_allowed c ≡ true) (found : Some f ≡ fields_found c) where
   by_contents : (t : Bool) → contents_ok c ≡ t → well_formed c ≡ t
   unfolding well_formed
   by_contents t k = rw (l, (found_agree c f found).agree, k)
 
-  pub judge_formed : contents_ok c ≡ true → Judges c (Formed f)
+  pub judge_formed : contents_ok c ≡ true → Judges c (Ok f)
   unfolding first_row
   judge_formed k =
       let w : well_formed c ≡ true = by_contents true k in
-      record { number = rw (l, w); frame = rw w (ap some (found_agree c f found).is) }
+      record { number = rw (l, w); frame = rw w (ap Some (found_agree c f found).is) }
 
-  pub judge_contents : contents_ok c ≡ false → Judges c Malformed
+  pub judge_contents : contents_ok c ≡ false → Judges c (Err Malformed)
   judge_contents k = unformed c l (by_contents false k)
 
 -- ---- what an answer of `judge` means
-pub judged_formed : (c : List ℕ) (f : Frame) → Judges c (Formed f) → Known c f
+pub judged_formed : (c : List ℕ) (f : Frame) → Judges c (Ok f) → Known c f
 judged_formed c f j = go (well_formed c) refl j.frame
   where
-    go : (w : Bool) → well_formed c ≡ w → some f ≡ cond w (some (frame_of c)) none → Known c f
+    go : (w : Bool) → well_formed c ≡ w → Some f ≡ cond w (Some (frame_of c)) None → Known c f
     go true h q = record { is = cc; formed = h }
     go false h q = absurd (let z : ◌≡◌ {A = ℕ} 0 1 = cc in omega arith)
 
-pub judged-malformed : (c : List ℕ) → Judges c Malformed → (length_allowed c ≡ true) × (well_formed c ≡ false)
+pub judged-malformed : (c : List ℕ) → Judges c (Err Malformed) → (length_allowed c ≡ true) × (well_formed c ≡ false)
 unfolding first_row
 judged-malformed c j = go (length_allowed c) (well_formed c) refl refl j.number
   where
@@ -218,7 +217,7 @@ judged-malformed c j = go (length_allowed c) (well_formed c) refl refl j.number
     go true false g h q = (g, h)
     go false w g h q = absurd (omega arith)
 
-pub judged-length : (c : List ℕ) → Judges c BadLength → length_allowed c ≡ false
+pub judged-length : (c : List ℕ) → Judges c (Err BadLength) → length_allowed c ≡ false
 unfolding first_row
 judged-length c j = go (length_allowed c) (well_formed c) refl j.number
   where

@@ -95,13 +95,14 @@ impl Frame {
     }
 
     // The frame with another size of the data, one that a request would reach: the count moves where it must.
+    #[tactic(auto, unfolding(crate::specs::Layout::moved_count))]
     pub fn resized(self, size: usize) -> Frame
         requires { size ≤ 4294967296 }
         ensures { result ≡ resized_to self size }
     {
         Frame {
-            size: size,
-            offset: octets::choices::greater(self.offset, DATA_AT + size),
+            size,
+            offset: self.offset.max(DATA_AT + size),
             extras: self.extras,
         }
     }

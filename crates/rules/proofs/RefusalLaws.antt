@@ -14,6 +14,12 @@ use Rattle.octets.specs.Rows.{first_row}
 use Rattle.rules.specs.Outcomes.{request_rows, replies, answer_of, no_node, answer_to, outcome, answered}
 use Rattle.rules.specs.Outcomes.{container_after, reply_after}
 use Rattle.rules.proofs.OutcomeLaws.{outcome_formed}
+use Rattle.std.specs.Prelude.{Err}
+use Rattle.format.specs.Judging.{Judges}
+use Rattle.format.specs.declared.judging.Flaw.{Flaw}
+use Rattle.format.specs.declared.judging.Flaw.TheVariants.{BadLength, Malformed}
+use Rattle.format.proofs.JudgingLaws.{judged-length, judged-malformed}
+use Rattle.rules.specs.Refusals.{number_of, refusal_of}
 
 -- A call that is answered n, with no node id and no count, and leaves container and reply space as they were.
 pub record Refused (n : ℕ) (c q r : List ℕ) : Type 0 where
@@ -59,6 +65,11 @@ bad_length c q r e = silent-refused 1 c q r silent1 (rw e)
 pub malformed : (c q r : List ℕ) → length_allowed c ≡ true → well_formed c ≡ false → Refused 2 c q r
 unfolding outcome first_row
 malformed c q r l e = silent-refused 2 c q r silent2 (rw (l, e))
+
+-- a buffer that is no container, by what judging it answers
+pub flawed : (e : Flaw) (c q r : List ℕ) → Judges c (Err e) → Refused (number_of (refusal_of e)) c q r
+flawed BadLength c q r j = bad_length c q r (judged-length c j)
+flawed Malformed c q r j = let m = judged-malformed c j in malformed c q r m.0 m.1
 
 pub broken : (c q r : List ℕ) → well_formed c ≡ true → request_of q ≡ none → Refused 3 c q r
 unfolding first_row request_rows
