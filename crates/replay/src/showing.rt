@@ -14,7 +14,8 @@ use requests::cursors::Cursor;
 use requests::forms::{Form, Table};
 use requests::offsets::resolve;
 use rules::Answer;
-use shares::share::MDMF;
+use share_format::parts::Part;
+use shares::share::{MDMF, container_part};
 use std::io;
 use std::io::Write;
 
@@ -390,22 +391,14 @@ fn share_part<W: Write>(out: &mut W, name: &[u8], part: &[u8]) -> io::Result<()>
 
 // The parts of a share, in one order for both editions; only MDMF has spare bytes.
 fn share_parts<W: Write>(out: &mut W, c: &[u8], edition: u32) -> io::Result<()> {
-    share_part(out, b" share: key ", shares::share::container_key(c))?;
-    share_part(out, b", signature ", shares::share::container_signature(c))?;
-    share_part(out, b", chain ", shares::share::container_chain(c))?;
-    share_part(out, b", tree ", shares::share::container_tree(c))?;
-    share_part(
-        out,
-        b", share data ",
-        shares::share::container_share_data(c),
-    )?;
-    share_part(
-        out,
-        b", private key ",
-        shares::share::container_private_key(c),
-    )?;
+    share_part(out, b" share: key ", container_part(c, Part::Key))?;
+    share_part(out, b", signature ", container_part(c, Part::Signature))?;
+    share_part(out, b", chain ", container_part(c, Part::Chain))?;
+    share_part(out, b", tree ", container_part(c, Part::Tree))?;
+    share_part(out, b", share data ", container_part(c, Part::ShareData))?;
+    share_part(out, b", private key ", container_part(c, Part::PrivateKey))?;
     if edition == MDMF {
-        share_part(out, b", spare ", shares::share::container_spare(c))?;
+        share_part(out, b", spare ", container_part(c, Part::Spare))?;
     }
     write(out, b" bytes\n")
 }

@@ -7,7 +7,8 @@ ghost use Rattle.share_numbers.specs.Coding.{segment_ok};
 ghost use Rattle.share_judging.specs.Judging.{head_rows, laid_rows, body_rows, share_outcome};
 
 use share_contents::contents;
-use share_format::{bounds, header, parts};
+use share_format::parts::Part;
+use share_format::{bounds, header};
 use share_numbers::{coding, order};
 
 // Rows 21 to 24, which need no offset.
@@ -49,9 +50,9 @@ fn laid_outcome(s: &[u8], mdmf: bool, bounds: [u64; 8]) -> u32
         header::total(s, mdmf),
         header::segment_size(s, mdmf),
         header::data_length(s, mdmf),
-        bounds::part(s, bounds, parts::chain_part(mdmf)),
-        bounds::part(s, bounds, parts::tree_part(mdmf)),
-        bounds::part(s, bounds, parts::share_data_part(mdmf)),
+        bounds::part(s, bounds, Part::Chain.number(mdmf)),
+        bounds::part(s, bounds, Part::Tree.number(mdmf)),
+        bounds::part(s, bounds, Part::ShareData.number(mdmf)),
     )
 }
 

@@ -192,13 +192,9 @@ container_inside c = go (eqb (lent_of c).number 0) refl
     go false e = rw (container_refused c (eqb-false _ _ e)) (none_inside false (lent_of c).number (length c))
 
 -- Which part it is, by the edition's number.
-pub numbered : (e : Edition) (v i j : ℕ) → v ≡ version_of e → by_edition (eqb v 1) i j ≡ by_edition e i j
-numbered false v i j h = rw h
-numbered true v i j h = rw h
-
-pub below_seven : (e : Edition) (i j : ℕ) → i < 7 → j < 7 → by_edition e i j < 7
-below_seven false i j h k = h
-below_seven true i j h k = k
+pub named : (e : Edition) (v : ℕ) → v ≡ version_of e → eqb v 1 ≡ e
+named false v h = rw h
+named true v h = rw h
 
 -- ---- the boundaries, moved
 pub bound_below : (bs : List ℕ) (n : ℕ) → PartsInside bs n → (i : ℕ) → i < 8 → get_or bs i 0 ≤ n

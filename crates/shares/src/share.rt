@@ -1,15 +1,15 @@
 // The checker: outcomes 0 and 21 to 29, the edition, and the parts as parts of the caller's slice.
-ghost use Rattle.std.specs.Prelude.{◌≡◌, true, ◌+◌, ◌≤◌, ◌<◌, eqb, length};
+ghost use Rattle.std.specs.Prelude.{◌≡◌, true, ◌+◌, ◌≤◌, eqb, length};
 ghost use Rattle.container.specs.Data.{beyond, data_lent};
 ghost use Rattle.share_format.specs.Facts.{PartsInside};
-ghost use Rattle.share_format.specs.Header.{by_edition, version_of, edition_of, header_size, bounds_of};
-ghost use Rattle.share_format.specs.Parts.{key_part, signature_part, chain_part, tree_part, share_data_part};
-ghost use Rattle.share_format.specs.Parts.{private_key_part, spare_part};
+ghost use Rattle.share_format.specs.Header.{version_of, edition_of, header_size, bounds_of};
+ghost use Rattle.share_format.specs.Numbering.{part_number};
 ghost use Rattle.shares.specs.Share.{refused, bounds_at, checked_at, checked_of, share_part, part_at};
 ghost use Rattle.shares.specs.Share.{checked_container, container_part, container_part_at};
 ghost use Rattle.octets.specs.Facts.{Fits64};
 
-use share_format::{bounds, header, parts};
+use share_format::parts::Part;
+use share_format::{bounds, header};
 use share_judging::judging;
 
 // MDMF, as the answer's edition has it.
@@ -89,165 +89,32 @@ pub fn check_container(c: &[u8]) -> Checked
     checked_at(&c[a..e], a as u64)
 }
 
-// The number of a part, by its number in each edition.
-fn part_number(edition: u32, in_sdmf: usize, in_mdmf: usize) -> usize
-    ensures { result ≡ by_edition (eqb edition (version_of true)) in_sdmf in_mdmf }
+// The numbers of the parts are those of the edition that the answer names.
+fn is_mdmf(checked: &Checked) -> bool
+    ensures { result ≡ eqb checked.now.edition (version_of true) }
 {
-    if edition == MDMF { in_mdmf } else { in_sdmf }
+    checked.edition == MDMF
 }
 
-// A part, by its number in each edition.
-fn part(s: &[u8], in_sdmf: usize, in_mdmf: usize) -> &[u8]
-    requires { (in_sdmf < 7) × (in_mdmf < 7) }
-    ensures bytes { result.now
-        ≡ share_part (by_edition (edition_of s.now) in_sdmf in_mdmf) s.now }
+// A part of a share, that very part of the slice; on a refusal each is empty, at the slice's start. SDMF has no spare
+// bytes, so that part is empty.
+pub fn part(s: &[u8], part: Part) -> &[u8]
+    ensures bytes { result.now ≡ share_part (part_number part (edition_of s.now)) s.now }
     ensures place { result.ref_ptr
-        ≡ beyond s.entry.ref_ptr
-        (part_at (by_edition (edition_of s.now) in_sdmf in_mdmf) s.now) }
+        ≡ beyond s.entry.ref_ptr (part_at (part_number part (edition_of s.now)) s.now) }
 {
     let checked = check(s);
-    let bounds = checked.bounds;
-    bounds::part(s, bounds, part_number(checked.edition, in_sdmf, in_mdmf))
+    bounds::part(s, checked.bounds, part.number(is_mdmf(&checked)))
 }
 
-// The parts of a share, each that very part of the slice; on a refusal each is empty, at the slice's start. SDMF has no
-// spare bytes, so that part is empty.
-pub fn key(s: &[u8]) -> &[u8]
-    ensures bytes { result.now ≡ share_part (key_part (edition_of s.now)) s.now }
-    ensures place { result.ref_ptr
-        ≡ beyond s.entry.ref_ptr (part_at (key_part (edition_of s.now)) s.now) }
-{
-    part(s, parts::SDMF_KEY, parts::MDMF_KEY)
-}
-
-pub fn signature(s: &[u8]) -> &[u8]
-    ensures bytes { result.now ≡ share_part (signature_part (edition_of s.now)) s.now }
-    ensures place { result.ref_ptr
-        ≡ beyond s.entry.ref_ptr (part_at (signature_part (edition_of s.now)) s.now) }
-{
-    part(s, parts::SDMF_SIGNATURE, parts::MDMF_SIGNATURE)
-}
-
-pub fn chain(s: &[u8]) -> &[u8]
-    ensures bytes { result.now ≡ share_part (chain_part (edition_of s.now)) s.now }
-    ensures place { result.ref_ptr
-        ≡ beyond s.entry.ref_ptr (part_at (chain_part (edition_of s.now)) s.now) }
-{
-    part(s, parts::SDMF_CHAIN, parts::MDMF_CHAIN)
-}
-
-pub fn tree(s: &[u8]) -> &[u8]
-    ensures bytes { result.now ≡ share_part (tree_part (edition_of s.now)) s.now }
-    ensures place { result.ref_ptr
-        ≡ beyond s.entry.ref_ptr (part_at (tree_part (edition_of s.now)) s.now) }
-{
-    part(s, parts::SDMF_TREE, parts::MDMF_TREE)
-}
-
-pub fn share_data(s: &[u8]) -> &[u8]
-    ensures bytes { result.now ≡ share_part (share_data_part (edition_of s.now)) s.now }
-    ensures place { result.ref_ptr
-        ≡ beyond s.entry.ref_ptr (part_at (share_data_part (edition_of s.now)) s.now) }
-{
-    part(s, parts::SDMF_SHARE_DATA, parts::MDMF_SHARE_DATA)
-}
-
-pub fn private_key(s: &[u8]) -> &[u8]
-    ensures bytes { result.now ≡ share_part (private_key_part (edition_of s.now)) s.now }
-    ensures place { result.ref_ptr
-        ≡ beyond s.entry.ref_ptr (part_at (private_key_part (edition_of s.now)) s.now) }
-{
-    part(s, parts::SDMF_PRIVATE_KEY, parts::MDMF_PRIVATE_KEY)
-}
-
-pub fn spare(s: &[u8]) -> &[u8]
-    ensures bytes { result.now ≡ share_part (spare_part (edition_of s.now)) s.now }
-    ensures place { result.ref_ptr
-        ≡ beyond s.entry.ref_ptr (part_at (spare_part (edition_of s.now)) s.now) }
-{
-    part(s, parts::SDMF_SPARE, parts::MDMF_SPARE)
-}
-
-fn container_part(c: &[u8], in_sdmf: usize, in_mdmf: usize) -> &[u8]
-    requires { (in_sdmf < 7) × (in_mdmf < 7) }
+// The same of the share in a container, as a part of the container.
+pub fn container_part(c: &[u8], part: Part) -> &[u8]
     ensures bytes { result.now
-        ≡ container_part (by_edition (edition_of (data_lent c.now)) in_sdmf in_mdmf) c.now }
+        ≡ container_part (part_number part (edition_of (data_lent c.now))) c.now }
     ensures place { result.ref_ptr
         ≡ beyond c.entry.ref_ptr
-        (container_part_at (by_edition (edition_of (data_lent c.now)) in_sdmf in_mdmf) c.now) }
+        (container_part_at (part_number part (edition_of (data_lent c.now))) c.now) }
 {
     let checked = check_container(c);
-    let bounds = checked.bounds;
-    bounds::part(c, bounds, part_number(checked.edition, in_sdmf, in_mdmf))
-}
-
-// The same of the share in a container, as parts of the container's slice.
-pub fn container_key(c: &[u8]) -> &[u8]
-    ensures bytes { result.now
-        ≡ container_part (key_part (edition_of (data_lent c.now))) c.now }
-    ensures place { result.ref_ptr
-        ≡ beyond c.entry.ref_ptr
-        (container_part_at (key_part (edition_of (data_lent c.now))) c.now) }
-{
-    container_part(c, parts::SDMF_KEY, parts::MDMF_KEY)
-}
-
-pub fn container_signature(c: &[u8]) -> &[u8]
-    ensures bytes { result.now
-        ≡ container_part (signature_part (edition_of (data_lent c.now))) c.now }
-    ensures place { result.ref_ptr
-        ≡ beyond c.entry.ref_ptr
-        (container_part_at (signature_part (edition_of (data_lent c.now))) c.now) }
-{
-    container_part(c, parts::SDMF_SIGNATURE, parts::MDMF_SIGNATURE)
-}
-
-pub fn container_chain(c: &[u8]) -> &[u8]
-    ensures bytes { result.now
-        ≡ container_part (chain_part (edition_of (data_lent c.now))) c.now }
-    ensures place { result.ref_ptr
-        ≡ beyond c.entry.ref_ptr
-        (container_part_at (chain_part (edition_of (data_lent c.now))) c.now) }
-{
-    container_part(c, parts::SDMF_CHAIN, parts::MDMF_CHAIN)
-}
-
-pub fn container_tree(c: &[u8]) -> &[u8]
-    ensures bytes { result.now
-        ≡ container_part (tree_part (edition_of (data_lent c.now))) c.now }
-    ensures place { result.ref_ptr
-        ≡ beyond c.entry.ref_ptr
-        (container_part_at (tree_part (edition_of (data_lent c.now))) c.now) }
-{
-    container_part(c, parts::SDMF_TREE, parts::MDMF_TREE)
-}
-
-pub fn container_share_data(c: &[u8]) -> &[u8]
-    ensures bytes { result.now
-        ≡ container_part (share_data_part (edition_of (data_lent c.now))) c.now }
-    ensures place { result.ref_ptr
-        ≡ beyond c.entry.ref_ptr
-        (container_part_at (share_data_part (edition_of (data_lent c.now))) c.now) }
-{
-    container_part(c, parts::SDMF_SHARE_DATA, parts::MDMF_SHARE_DATA)
-}
-
-pub fn container_private_key(c: &[u8]) -> &[u8]
-    ensures bytes { result.now
-        ≡ container_part (private_key_part (edition_of (data_lent c.now))) c.now }
-    ensures place { result.ref_ptr
-        ≡ beyond c.entry.ref_ptr
-        (container_part_at (private_key_part (edition_of (data_lent c.now))) c.now) }
-{
-    container_part(c, parts::SDMF_PRIVATE_KEY, parts::MDMF_PRIVATE_KEY)
-}
-
-pub fn container_spare(c: &[u8]) -> &[u8]
-    ensures bytes { result.now
-        ≡ container_part (spare_part (edition_of (data_lent c.now))) c.now }
-    ensures place { result.ref_ptr
-        ≡ beyond c.entry.ref_ptr
-        (container_part_at (spare_part (edition_of (data_lent c.now))) c.now) }
-{
-    container_part(c, parts::SDMF_SPARE, parts::MDMF_SPARE)
+    bounds::part(c, checked.bounds, part.number(is_mdmf(&checked)))
 }

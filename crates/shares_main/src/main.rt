@@ -7,6 +7,7 @@ mod sdmf;
 mod writers;
 
 use octets::{moves, numbers};
+use share_format::parts::Part;
 use shares::share;
 use shares::share::Checked;
 use std::io;
@@ -69,13 +70,13 @@ fn show_checked<W: Write>(out: &mut W, name: &[u8], checked: Checked) -> io::Res
 
 fn show<W: Write>(out: &mut W, name: &[u8], s: &[u8]) -> io::Result<()> {
     show_checked(out, name, share::check(s))?;
-    show_length(out, share::key(s))?;
-    show_length(out, share::signature(s))?;
-    show_length(out, share::chain(s))?;
-    show_length(out, share::tree(s))?;
-    show_length(out, share::share_data(s))?;
-    show_length(out, share::private_key(s))?;
-    show_length(out, share::spare(s))?;
+    show_length(out, share::part(s, Part::Key))?;
+    show_length(out, share::part(s, Part::Signature))?;
+    show_length(out, share::part(s, Part::Chain))?;
+    show_length(out, share::part(s, Part::Tree))?;
+    show_length(out, share::part(s, Part::ShareData))?;
+    show_length(out, share::part(s, Part::PrivateKey))?;
+    show_length(out, share::part(s, Part::Spare))?;
     out.write_all(b"\n")
 }
 
@@ -89,13 +90,13 @@ fn front(s: &[u8], n: usize) -> &[u8] {
 
 fn show_container<W: Write>(out: &mut W, name: &[u8], c: &[u8]) -> io::Result<()> {
     show_checked(out, name, share::check_container(c))?;
-    show_length(out, share::container_key(c))?;
-    show_length(out, share::container_signature(c))?;
-    show_length(out, share::container_chain(c))?;
-    show_length(out, share::container_tree(c))?;
-    show_length(out, share::container_share_data(c))?;
-    show_length(out, share::container_private_key(c))?;
-    show_length(out, share::container_spare(c))?;
+    show_length(out, share::container_part(c, Part::Key))?;
+    show_length(out, share::container_part(c, Part::Signature))?;
+    show_length(out, share::container_part(c, Part::Chain))?;
+    show_length(out, share::container_part(c, Part::Tree))?;
+    show_length(out, share::container_part(c, Part::ShareData))?;
+    show_length(out, share::container_part(c, Part::PrivateKey))?;
+    show_length(out, share::container_part(c, Part::Spare))?;
     out.write_all(b"\n")
 }
 

@@ -2,6 +2,7 @@
 // that was written is checked, read back and written again; on a refusal the space is compared with what it was.
 use crate::{front, set8, show, store};
 use octets::{numbers, strings};
+use share_format::parts::Part;
 use share_rules::Written;
 use shares::share;
 use std::io;
@@ -168,12 +169,12 @@ fn sdmf_again(s: &[u8], d: &mut [u8]) -> Written {
         s[57],
         s[58],
         number_at(s, 67),
-        share::key(s),
-        share::signature(s),
-        share::chain(s),
-        share::tree(s),
-        share::share_data(s),
-        share::private_key(s),
+        share::part(s, Part::Key),
+        share::part(s, Part::Signature),
+        share::part(s, Part::Chain),
+        share::part(s, Part::Tree),
+        share::part(s, Part::ShareData),
+        share::part(s, Part::PrivateKey),
         d,
     )
 }
@@ -192,13 +193,13 @@ fn mdmf_again(s: &[u8], d: &mut [u8]) -> Written {
         s[42],
         number_at(s, 43),
         number_at(s, 51),
-        share::private_key(s),
-        share::chain(s),
-        share::signature(s),
-        share::key(s),
-        share::spare(s),
-        share::share_data(s),
-        share::tree(s),
+        share::part(s, Part::PrivateKey),
+        share::part(s, Part::Chain),
+        share::part(s, Part::Signature),
+        share::part(s, Part::Key),
+        share::part(s, Part::Spare),
+        share::part(s, Part::ShareData),
+        share::part(s, Part::Tree),
         d,
     )
 }
