@@ -2,6 +2,7 @@
 use mathlib.Core.Path.{◌≡◌, ap₂, ◌∙◌}
 use Prim.Native.Nat.{ℕ, ◌+◌, ◌-◌}
 use native.Mathlib.Omega.{arith}
+use Rattle.std.proofs.Common.{rules}
 use lib.ListN.{replicate}
 use Rattle.octets.specs.Facts.{Octets}
 use Rattle.octets.specs.Moves.{put}
@@ -40,7 +41,7 @@ pub returns : goal.returns
 unfolding no_lease
 returns c =
     let a = c.args in
-    let o : Octets a.c.now = λ j. omega (arith, c.slice_known-1.given j) in
+    let o : Octets a.c.now = λ j. search rules in
     let w : c.place_at-p.result + record_size - c.place_at-p.result ≡ record_size = omega arith in
     let e =
     c.clear_part.ensures

@@ -1,6 +1,7 @@
 -- The place keeps the later expiry, whether it is stored or stands there already. Assumes nothing.
 use mathlib.Core.Path.{◌∙◌}
 use native.Mathlib.Omega.{arith}
+use Rattle.std.proofs.Common.{rules}
 use Rattle.octets.specs.Facts.{Octets}
 use Rattle.leases.proofs.PlaceLaws.{known_bounds, Inside, inside}
 use Rattle.leases.proofs.ChangeLaws.{put_expiry, keep_expiry}
@@ -40,7 +41,7 @@ put_u32-requires c =
 pub returns-then-old-expiry : goal.returns-then-old-expiry
 returns-then-old-expiry c =
     let octets : Octets c.args.c.now =
-    λ j. omega (arith, c.slice_known-1.given j) in
+    λ j. search rules in
     let a = c.args in
     c.put_u32.ensures
     ∙ put_expiry a.c.now a.frame c.requires.0 (octets) a.i a.expiry _ c.requires.1
@@ -49,7 +50,7 @@ returns-then-old-expiry c =
 pub returns-else-old-expiry : goal.returns-else-old-expiry
 returns-else-old-expiry c =
     let octets : Octets c.args.c.now =
-    λ j. omega (arith, c.slice_known-1.given j) in
+    λ j. search rules in
     let a = c.args in
     keep_expiry a.c.now a.frame c.requires.0 (octets) a.i a.expiry _ c.requires.1
     c.place_at-p.ensures (omega (arith, c.u32_at-old.ensures))
