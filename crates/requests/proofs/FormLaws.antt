@@ -1,6 +1,6 @@
 -- What the tests of a request's form say, and the form that they leave. Assumes nothing.
 use mathlib.Core.Path.{◌≡◌, refl, sym, ap, subst, ◌∙◌}
-use mathlib.Core.Bool.{Bool, true, false, cond, not, ◌&&◌}
+use mathlib.Core.Bool.{Bool, true, false, cond, not, ◌&&◌, false≢true}
 use mathlib.Core.List.{List, [], ◌∷◌}
 use mathlib.Core.Option.{Option, none, some}
 use Rattle.std.specs.Prelude.{Option as Maybe, Some, None, Result, Ok, Err, ◌⊎◌}
@@ -13,6 +13,7 @@ use Rattle.requests.specs.Kinds.{Names, kind_byte}
 use Prim.Native.Nat.{ℕ, zero, suc, ◌+◌, ◌*◌, ◌-◌, ◌≤◌, ◌<◌}
 use native.Mathlib.Omega.{arith}
 use native.Mathlib.Nat.{mul-suc}
+use native.Mathlib.Numerals.{add-one}
 use lib.ListN.{length, take, drop, get_or, length-drop}
 use lib.Seq.{take_all, drop-drop}
 use lib.Dec.{eqb}
@@ -22,8 +23,8 @@ use Rattle.requests.specs.declared.cursors.Record.{Record}
 use Rattle.requests.specs.declared.cursors.Header.{Header}
 use Rattle.requests.specs.declared.cursors.ReadHeader.{ReadHeader}
 use Rattle.requests.specs.declared.forms.Form.{Form}
-use Rattle.requests.specs.declared.forms.TestsPassed.{TestsPassed}
-use Rattle.requests.specs.declared.forms.WritesPassed.{WritesPassed}
+use Rattle.requests.specs.declared.cursors.Entry.{Entry}
+use Rattle.requests.specs.declared.cursors.TestEntry.{TestEntry}
 use Rattle.requests.specs.declared.forms.Form.TheVariants.{Add, Renew, Cancel}
 use Rattle.octets.specs.Facts.{Octets}
 use Rattle.rules.specs.Requests.{all_from, by_kind, cut_of, cut_ok, entry_count, entry_size, request_limit, specimens_at}
@@ -32,7 +33,7 @@ use Rattle.rules.specs.Requests.{writes_at, Request, entry_limit, entry_specimen
 use Rattle.rules.specs.Requests.{write_count, cut_flag, entry_opcode, new_length, padding_at, add_ok, cancel_ok, read_count}
 use Rattle.rules.specs.Requests.{entry_ok}
 use Rattle.rules.specs.Requests.{read_ok, reads_at, renew_ok, request_of, kind_of}
-use Rattle.requests.specs.Cursors.{byte_at, body_at, record_at, header_at, read_header_at}
+use Rattle.requests.specs.Cursors.{byte_at, entry_at, test_at, body_at, record_at, header_at, read_header_at}
 use Rattle.std.specs.Bool.{then_some}
 use Rattle.octets.specs.Lists.{is_some}
 use Rattle.requests.specs.Forms.{parted_as, tests_passed, writes_passed, form_of_read, FormIn, Takes, asked, cut_in}
@@ -70,6 +71,27 @@ module _ (stride left p : ℕ) (h : left ≤ 0) where
   unfolding sum_from
   sum-end f = ap (λ (n : ℕ). sum_from f stride n p) none_left
 
+-- ---- the last of a table's first entries
+pub all_last : (t : ℕ → Bool) (stride n p : ℕ) → all_from t stride (n + 1) p ≡ (all_from t stride n p && t (p + stride * n))
+unfolding all_from
+all_last t stride n p = rw add-one (go n p)
+  where
+    go : (n p : ℕ) → all_from t stride (suc n) p ≡ (all_from t stride n p && t (p + stride * n))
+    go zero p = let e : p + stride * 0 ≡ p = omega arith in rw e (and-true (t p))
+    go (suc n) p =
+        let e : p + stride * suc n ≡ p + stride + stride * n = omega (arith, mul-suc stride n) in
+        rw e (ap (λ (b : Bool). t p && b) (go n (p + stride)) ∙ sym (and_assoc (t p) _ _))
+
+pub sum_last : (f : ℕ → ℕ) (stride n p : ℕ) → sum_from f stride (n + 1) p ≡ sum_from f stride n p + f (p + stride * n)
+unfolding sum_from
+sum_last f stride n p = rw add-one (go n p)
+  where
+    go : (n p : ℕ) → sum_from f stride (suc n) p ≡ sum_from f stride n p + f (p + stride * n)
+    go zero p = let e : p + stride * 0 ≡ p = omega arith in rw e (omega arith)
+    go (suc n) p =
+        let e : p + stride * suc n ≡ p + stride + stride * n = omega (arith, mul-suc stride n) in
+        rw e (omega (arith, go n (p + stride)))
+
 pub sum_most : (f : ℕ → ℕ) (stride b : ℕ) → ((p : ℕ) → f p < b) → (n p : ℕ) → sum_from f stride n p ≤ b * n
 unfolding sum_from
 sum_most f stride b h zero p = omega arith
@@ -86,83 +108,41 @@ pub test_entry_ok_lem : (q : List ℕ) (p : ℕ) → entry_ok (entry_opcode p q)
 unfolding test_entry_ok
 test_entry_ok_lem q p = refl
 
--- what is left of a table of n tests from p on, with what has been found so far
-pub record Testing (q : List ℕ) (p n : ℕ) (good : Bool) (sum at left : ℕ) : Type 0 where
-  pub few : left ≤ n
-  pub reaches : at + test_size * left ≡ p + test_size * n
-  pub tested : (good && all_from (test_entry_ok q) test_size left at) ≡ all_from (test_entry_ok q) test_size n p
-  pub summed : sum + sum_from (λ i. entry_specimen i q) test_size left at
-      ≡ sum_from (λ i. entry_specimen i q) test_size n p
+-- what passing over the first tests of a table from p on has found
+pub record Testing (q : List ℕ) (p done : ℕ) (good : Bool) (sum at : ℕ) : Type 0 where
+  pub reaches : at ≡ p + test_size * done
+  pub tested : good ≡ all_from (test_entry_ok q) test_size done p
+  pub summed : sum ≡ sum_from (λ i. entry_specimen i q) test_size done p
 
-pub testing_start : (q : List ℕ) (p n : ℕ) → Testing q p n true 0 p n
-testing_start q p n = record { few = omega arith; reaches = refl; tested = refl; summed = omega arith }
+pub testing_start : (q : List ℕ) (p : ℕ) → Testing q p 0 true 0 p
+unfolding all_from sum_from
+testing_start q p = record { reaches = omega arith; tested = refl; summed = refl }
 
-pub testing_next : {q : List ℕ} {p n : ℕ} {good : Bool} {sum at left : ℕ} → Testing q p n good sum at left → 0 < left
-    → (g : Bool) (s : ℕ) → g ≡ (good && test_entry_ok q at) → s ≡ entry_specimen at q
-    → Testing q p n g (sum + s) (at + test_size) (left - 1)
-testing_next {q} {p} {n} {good} {sum} {at} {left} t h g s e k =
-    let m : ℕ = left - 1 in
-    record {
-      few = omega (arith, t.few);
-      reaches = omega (arith, t.reaches, times_next test_size left at h);
-      tested =
-          rw e (and_assoc good (test_entry_ok q at) (all_from (test_entry_ok q) test_size m (at + test_size)))
-          ∙ ap (λ (b : Bool). good && b) (sym (all_next test_size left at h (test_entry_ok q))) ∙ t.tested;
-      summed = omega (arith, t.summed, sum_next test_size left at h (λ i. entry_specimen i q));
-    }
-
-pub testing_bound : {q : List ℕ} {p n : ℕ} {good : Bool} {sum at left : ℕ} → Testing q p n good sum at left → 0 < left
-    → sum + entry_specimen at q ≤ sum_from (λ i. entry_specimen i q) test_size n p
-testing_bound {q} {p} {n} {good} {sum} {at} {left} t h =
-    omega (arith, t.summed, sum_next test_size left at h (λ i. entry_specimen i q))
-
-pub testing_end : {q : List ℕ} {p n : ℕ} {good : Bool} {sum at left : ℕ} → Testing q p n good sum at left → left ≤ 0
-    → ◌≡◌ {A = TestsPassed} (record { good = good; length = sum; next = record { at = at } }) (tests_passed p n q)
-testing_end {q} {p} {n} {good} {sum} {at} {left} t h =
-    let z : left ≡ 0 = omega arith in
-    let a : at ≡ p + test_size * n = omega (arith, t.reaches) in
-    let s : sum ≡ sum_from (λ i. entry_specimen i q) test_size n p =
-    omega (arith, t.summed, sum-end test_size left at h (λ i. entry_specimen i q)) in
-    let g : good ≡ all_from (test_entry_ok q) test_size n p =
-    sym (and-true good) ∙ ap (λ (b : Bool). good && b) (sym (all_end test_size left at h (test_entry_ok q))) ∙ t.tested in
-    rw (a, s, g)
+pub testing_next : {q : List ℕ} {p done : ℕ} {good : Bool} {sum at : ℕ} → Testing q p done good sum at
+    → (x : TestEntry) → x ≡ test_at at q → (g : Bool) → g ≡ entry_ok x.opcode x.padding
+    → Testing q p (done + 1) (good && g) (sum + x.specimen) x.next.at
+unfolding test_entry_ok
+testing_next {q} {p} {done} {good} {sum} {at} t x e g k = rw (k, e) (record {
+  reaches = omega (arith, t.reaches);
+  tested = rw (all_last, ← t.reaches, t.tested);
+  summed = rw (sum_last, ← t.reaches, t.summed);
+})
 
 -- the same of writes
-pub record Adding (q : List ℕ) (p n sum at left : ℕ) : Type 0 where
-  pub few : left ≤ n
-  pub reaches : at + entry_size * left ≡ p + entry_size * n
-  pub summed : sum + sum_from (λ i. entry_count i q) entry_size left at ≡ sum_from (λ i. entry_count i q) entry_size n p
+pub record Adding (q : List ℕ) (p done sum at : ℕ) : Type 0 where
+  pub reaches : at ≡ p + entry_size * done
+  pub summed : sum ≡ sum_from (λ i. entry_count i q) entry_size done p
 
-pub adding_start : (q : List ℕ) (p n : ℕ) → Adding q p n 0 p n
-adding_start q p n = record { few = omega arith; reaches = refl; summed = omega arith }
+pub adding_start : (q : List ℕ) (p : ℕ) → Adding q p 0 0 p
+unfolding sum_from
+adding_start q p = record { reaches = omega arith; summed = refl }
 
-pub adding_next : {q : List ℕ} {p n sum at left : ℕ} → Adding q p n sum at left → 0 < left
-    → (s : ℕ) → s ≡ entry_count at q → Adding q p n (sum + s) (at + entry_size) (left - 1)
-adding_next {q} {p} {n} {sum} {at} {left} t h s k = record {
-  few = omega (arith, t.few);
-  reaches = omega (arith, t.reaches, times_next entry_size left at h);
-  summed = omega (arith, t.summed, sum_next entry_size left at h (λ i. entry_count i q));
-}
-
-pub adding_end : {q : List ℕ} {p n sum at left : ℕ} → Adding q p n sum at left → left ≤ 0
-    → ◌≡◌ {A = WritesPassed} (record { length = sum; next = record { at = at } }) (writes_passed p n q)
-adding_end {q} {p} {n} {sum} {at} {left} t h =
-    let a : at ≡ p + entry_size * n = omega (arith, t.reaches) in
-    let s : sum ≡ sum_from (λ i. entry_count i q) entry_size n p =
-    omega (arith, t.summed, sum-end entry_size left at h (λ i. entry_count i q)) in
-    rw (a, s)
+pub adding_next : {q : List ℕ} {p done sum at : ℕ} → Adding q p done sum at
+    → (x : Entry) → x ≡ entry_at at entry_size q → Adding q p (done + 1) (sum + x.count) x.next.at
+adding_next {q} {p} {done} {sum} {at} t x e =
+    rw e (record { reaches = omega (arith, t.reaches); summed = rw (sum_last, ← t.reaches, t.summed) })
 
 -- ---- the cut
-pub cut-none : (flag new : ℕ) → flag ≡ 0 → cut_ok flag new ≡ eqb new 0
-unfolding cut_ok
-cut-none flag new e = rw e
-
-pub cut-some : (flag new : ℕ) → (flag ≡ 0 → ⊥) → cut_ok flag new ≡ eqb flag 1
-unfolding cut_ok
-cut-some zero new h = absurd (h refl)
-cut-some (suc zero) new h = refl
-cut-some (suc (suc n)) new h = rw (lt-leb (suc (suc n)) 1 (omega arith), ne_eqb (suc (suc n)) 1 (λ e. omega arith))
-
 pub cut_is : (flag new : ℕ) → cut_in (then_some (not (eqb flag 0)) new) ≡ cut_of flag new
 unfolding cut_of
 cut_is flag new = go (eqb flag 0)
@@ -170,6 +150,15 @@ cut_is flag new = go (eqb flag 0)
     go : (b : Bool) → cut_in (then_some (not b) new) ≡ cond b none (some new)
     go true = refl
     go false = refl
+
+-- ---- what is there under a test
+then-some : (b : Bool) (x y : ℕ) → then_some b x ≡ Some y → (b ≡ true) × (x ≡ y)
+then-some true x y e = (refl, cc)
+then-some false x y e = cc
+
+then-none : (b : Bool) (x : ℕ) → then_some b x ≡ None → b ≡ false
+then-none true x e = cc
+then-none false x e = refl
 
 -- ---- forms
 pub takes_broken : (q : List ℕ) (w : Option Request) → w ≡ none → Takes q w None
@@ -263,13 +252,18 @@ inside-placed q f s =
     }
 
 -- What the code has found: header x, enabler e, tests t and writes w passed over.
-pub record Found (q : List ℕ) (x : Header) (e : Body) (t : TestsPassed) (w : WritesPassed) : Type 0 where
+pub record Found (q : List ℕ) (x : Header) (e : Body) (t : Next (Maybe ℕ)) (w : Next ℕ) : Type 0 where
   pub header : HeaderIs q x
   pub enabler : e ≡ body_at x.next.at secret_size
   pub tests : t ≡ tests_passed e.next.at x.tests q
   pub writes : w ≡ writes_passed t.next.at x.writes q
 
-module _ {q : List ℕ} {x : Header} {e : Body} {t : TestsPassed} {w : WritesPassed} (F : Found q x e t w) where
+pub found_by : {q : List ℕ} {p : ℕ} {x : Header} {e : Body} {t : Next (Maybe ℕ)} {w : Next ℕ} → p ≡ 1 → x ≡ header_at p q
+    → e ≡ body_at x.next.at secret_size → t ≡ tests_passed e.next.at x.tests q → w ≡ writes_passed t.next.at x.writes q
+    → Found q x e t w
+found_by {q} {p} {x} k h e t w = record { header = header_is q p x k h; enabler = e; tests = t; writes = w }
+
+module _ {q : List ℕ} {x : Header} {e : Body} {t : Next (Maybe ℕ)} {w : Next ℕ} (F : Found q x e t w) where
   header_next : x.next ≡ record { at = secret_at }
   header_next = ap (λ (p : ℕ). record { at = p }) F.header.next
 
@@ -285,42 +279,65 @@ module _ {q : List ℕ} {x : Header} {e : Body} {t : TestsPassed} {w : WritesPas
 
   pub specimens_at_lem : w.next.at ≡ specimens_at q
   unfolding specimens_at
-  specimens_at_lem = ap (λ (y : WritesPassed). y.next.at) writes_at_lem
+  specimens_at_lem = ap (λ (y : Next ℕ). y.next.at) writes_at_lem
 
-  pub ends_at : test_write_end q ≡ w.next.at + t.length + w.length
-  unfolding test_write_end new_data_at
-  ends_at = sym (rw (specimens_at_lem, tests_at_lem, writes_at_lem))
+  value_at : t.value ≡ then_some (all_from (test_entry_ok q) test_size (test_count q) tests_at)
+      (sum_from (λ p. entry_specimen p q) test_size (test_count q) tests_at)
+  value_at = ap (λ (y : Next (Maybe ℕ)). y.value) tests_at_lem
 
-  pub entries_at : t.good ≡ all_from (test_entry_ok q) test_size (test_count q) tests_at
-  entries_at = ap (λ (y : TestsPassed). y.good) tests_at_lem
+  pub entries_bad : t.value ≡ None → TableFacts q → ⊥
+  entries_bad n h = false≢true (sym (then-none _ _ (sym value_at ∙ n)) ∙ h.entries)
 
-  placed_is : (b : Body) → b ≡ body_at w.next.at t.length → parted_as x e.next t.next w.next b.next
-      ≡ placed_at q
-  unfolding writes_at specimens_at new_data_at
-  placed_is b k = rw (
-    k,
-    header_next,
-    enabler_at_lem,
-    tests_at_lem,
-    writes_at_lem,
-    F.header.tests,
-    F.header.writes,
-    F.header.flag,
-    F.header.new,
-  )
+  -- every entry is good, and n the specimens' lengths added up
+  module _ (n : ℕ) (good : t.value ≡ Some n) where
+    found_value : (all_from (test_entry_ok q) test_size (test_count q) tests_at ≡ true)
+        × (sum_from (λ p. entry_specimen p q) test_size (test_count q) tests_at ≡ n)
+    found_value = then-some _ _ _ (sym value_at ∙ good)
 
-  pub taken : (b : Body) (r : Form) → b ≡ body_at w.next.at t.length → r
-      ≡ parted_as x e.next t.next w.next b.next
-      → TableFacts q → length q ≤ request_limit → Takes q (by_kind 1 q) (Some r)
-  unfolding by_kind is_some
-  taken b r k e f s =
-      rw (e ∙ placed_is b k)
-      (record {
-        number = rw (table_true q f);
-        asks = rw (table_true q f) (asked-placed q);
-        inside =
-            inside-placed q f s;
-      })
+    pub entries_at : all_from (test_entry_ok q) test_size (test_count q) tests_at ≡ true
+    entries_at = found_value.0
+
+    pub length_at : n ≡ sum_from (λ p. entry_specimen p q) test_size (test_count q) tests_at
+    length_at = sym found_value.1
+
+    pub ends_at : test_write_end q ≡ w.next.at + n + w.value
+    unfolding test_write_end new_data_at
+    ends_at = sym (rw (specimens_at_lem, length_at, writes_at_lem))
+
+    -- nothing wraps
+    pub sums_small : Octets q → x.tests ≤ entry_limit → x.writes ≤ entry_limit → w.next.at + n + w.value < 4294967296 * 32
+    sums_small o h k =
+        let m = table_places q in
+        let s = specimens_most q o (test_count q) tests_at in
+        let b = bodies_most q o (write_count q) (writes_at q) in
+        let v = ap (λ (y : Next ℕ). y.value) writes_at_lem in
+        omega (arith, specimens_at_lem, length_at, F.header.tests, F.header.writes)
+
+    placed_is : (b : Body) → b ≡ body_at w.next.at n → parted_as x e.next t.next w.next b.next ≡ placed_at q
+    unfolding writes_at specimens_at new_data_at
+    placed_is b k = rw (
+      k,
+      length_at,
+      header_next,
+      enabler_at_lem,
+      tests_at_lem,
+      writes_at_lem,
+      F.header.tests,
+      F.header.writes,
+      F.header.flag,
+      F.header.new,
+    )
+
+    pub taken : (b : Body) (r : Form) → b ≡ body_at w.next.at n → r ≡ parted_as x e.next t.next w.next b.next
+        → TableFacts q → length q ≤ request_limit → Takes q (by_kind 1 q) (Some r)
+    unfolding by_kind is_some
+    taken b r k e f s =
+        rw (e ∙ placed_is b k)
+        (record {
+          number = rw (table_true q f);
+          asks = rw (table_true q f) (asked-placed q);
+          inside = inside-placed q f s;
+        })
 
 -- ---- a read
 pub record ReadFacts (q : List ℕ) : Type 0 where

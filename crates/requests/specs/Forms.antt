@@ -12,12 +12,11 @@ use Rattle.rules.specs.Requests.{entry_limit, entry_size, test_size, entry_count
 use Rattle.rules.specs.Requests.{sum_from, tests_from, writes_from, reads_from, request_of}
 use Rattle.requests.specs.Cursors.{bytes_from}
 use Rattle.requests.specs.declared.cursors.Cursor.{Cursor}
+use Rattle.requests.specs.declared.cursors.Next.{Next}
 use Rattle.requests.specs.declared.cursors.Record.{Record}
 use Rattle.requests.specs.declared.cursors.Header.{Header}
 use Rattle.requests.specs.declared.forms.Table.{Table}
 use Rattle.requests.specs.declared.forms.Parted.{Parted}
-use Rattle.requests.specs.declared.forms.TestsPassed.{TestsPassed}
-use Rattle.requests.specs.declared.forms.WritesPassed.{WritesPassed}
 use Rattle.requests.specs.declared.forms.Form.{Form}
 use Rattle.requests.specs.declared.forms.Form.TheVariants.{TestWrite, Add, Renew, Cancel}
 use Rattle.requests.specs.declared.forms.Form.TheVariants.{Read as ReadForm}
@@ -125,17 +124,16 @@ pub record ReadRequest (q : List ℕ) (t : Table) : Type 0 where
   pub is : request_of q ≡ some (read_in t q)
 
 -- ---- steps on the way
--- What passing over n entries from p on finds.
-abbrev pub tests_passed : ℕ → ℕ → List ℕ → TestsPassed
+-- What passing over n entries from p on finds: the lengths added up, of tests if every entry is good, and the place after.
+abbrev pub tests_passed : ℕ → ℕ → List ℕ → Next (Maybe ℕ)
 tests_passed p n q = record {
-  good = all_from (test_entry_ok q) test_size n p;
-  length = sum_from (λ i. entry_specimen i q) test_size n p;
+  value = then_some (all_from (test_entry_ok q) test_size n p) (sum_from (λ i. entry_specimen i q) test_size n p);
   next = record { at = p + test_size * n };
 }
 
-abbrev pub writes_passed : ℕ → ℕ → List ℕ → WritesPassed
+abbrev pub writes_passed : ℕ → ℕ → List ℕ → Next ℕ
 writes_passed p n q =
-    record { length = sum_from (λ i. entry_count i q) entry_size n p; next = record { at = p + entry_size * n } }
+    record { value = sum_from (λ i. entry_count i q) entry_size n p; next = record { at = p + entry_size * n } }
 
 -- The form of parts that have been found: the enabler stands behind the header.
 abbrev pub parted_as : Header → Cursor → Cursor → Cursor → Cursor → Form

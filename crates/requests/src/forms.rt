@@ -5,7 +5,7 @@ ghost use Rattle.rules.specs.Requests.{request_of};
 ghost use Rattle.requests.specs.Forms.{tests_passed, writes_passed, parted_as, form_of_read, Takes};
 
 use crate::cursors::{
-    Cursor, ENTRY_SIZE, HEADER_SIZE, Header, READ_HEADER_SIZE, Record, TEST_SIZE,
+    Cursor, ENTRY_SIZE, HEADER_SIZE, Header, Next, READ_HEADER_SIZE, Record, TEST_SIZE,
 };
 use crate::kinds::Kind;
 use format::layout::{RECORD_SIZE, SECRET_SIZE};
@@ -52,72 +52,47 @@ pub enum Form {
     Read(Table),
 }
 
-// What passing over a table of tests finds: whether every entry is good, the specimens' lengths added up, the place
-// after.
-#[derive(Clone, Copy)]
-pub(crate) struct TestsPassed {
-    pub(crate) good: bool,
-    pub(crate) length: usize,
-    pub(crate) next: Cursor,
-}
-
-// The same of a table of writes: the new data's lengths added up.
-#[derive(Clone, Copy)]
-pub(crate) struct WritesPassed {
-    pub(crate) length: usize,
-    pub(crate) next: Cursor,
-}
-
 // An opcode 1 to 6 and a zero byte.
 fn entry_ok(opcode: u8, padding: u8) -> bool
     ensures { result ≡ entry_ok opcode padding }
 {
-    if opcode < 1 {
-        return false;
-    }
-    if LAST_OPCODE < opcode {
-        return false;
-    }
-    padding == 0
+    1 <= opcode && opcode <= LAST_OPCODE && padding == 0
 }
 
-fn pass_tests(q: &[u8], first: Cursor, n: usize) -> TestsPassed
+// The specimens' lengths added up, if every entry of a table of tests is good, and the cursor behind the table.
+fn pass_tests(q: &[u8], first: Cursor, n: usize) -> Next<Option<usize>>
     requires { (first.at + test_size * n ≤ length q.now) × (n ≤ entry_limit) }
     ensures { result ≡ tests_passed first.at n q.now }
 {
-    let mut left = n;
     let mut cursor = first;
     let mut good = true;
     let mut length = 0;
-    while 0 < left {
+    for _ in 0..n {
         let test = cursor.test(q);
-        good = octets::choices::both(good, entry_ok(test.opcode, test.padding));
+        good &= entry_ok(test.opcode, test.padding);
         length += test.specimen;
         cursor = test.next;
-        left -= 1;
     }
-    TestsPassed {
-        good: good,
-        length: length,
+    Next {
+        value: good.then_some(length),
         next: cursor,
     }
 }
 
-fn pass_writes(q: &[u8], first: Cursor, n: usize) -> WritesPassed
+// The new data's lengths added up, and the cursor behind the table of writes.
+fn pass_writes(q: &[u8], first: Cursor, n: usize) -> Next<usize>
     requires { (first.at + entry_size * n ≤ length q.now) × (n ≤ entry_limit) }
     ensures { result ≡ writes_passed first.at n q.now }
 {
-    let mut left = n;
     let mut cursor = first;
     let mut length = 0;
-    while 0 < left {
+    for _ in 0..n {
         let entry = cursor.entry(q, ENTRY_SIZE);
         length += entry.count;
         cursor = entry.next;
-        left -= 1;
     }
-    WritesPassed {
-        length: length,
+    Next {
+        value: length,
         next: cursor,
     }
 }
@@ -126,23 +101,22 @@ fn pass_writes(q: &[u8], first: Cursor, n: usize) -> WritesPassed
 fn cut_ok(flag: usize, new: usize) -> bool
     ensures { result ≡ cut_ok flag new }
 {
-    if flag == 0 {
-        return new == 0;
+    match flag {
+        0 => new == 0,
+        1 => true,
+        _ => false,
     }
-    flag == 1
 }
 
 // A test-and-write whose parts have been found.
 fn found(header: Header, tests: Cursor, writes: Cursor, specimens: Cursor, bodies: Cursor) -> Form
     ensures { result ≡ parted_as header tests writes specimens bodies }
 {
-    let enabler = header.next;
-    let count = header.tests;
     Form::TestWrite(Parted {
-        enabler: enabler,
+        enabler: header.next,
         tests: Table {
             first: tests,
-            count: count,
+            count: header.tests,
             stride: TEST_SIZE,
         },
         writes: Table {
@@ -150,8 +124,8 @@ fn found(header: Header, tests: Cursor, writes: Cursor, specimens: Cursor, bodie
             count: header.writes,
             stride: ENTRY_SIZE,
         },
-        specimens: specimens,
-        bodies: bodies,
+        specimens,
+        bodies,
         cut: (header.flag != 0).then_some(header.new),
     })
 }
@@ -184,14 +158,12 @@ fn test_write_form(q: &[u8], at: Cursor) -> Option<Form>
     let tested = pass_tests(q, first, tests);
     // Before the entries are judged: behind one more test the compiler takes this walk for a rare one.
     let written = pass_writes(q, tested.next, writes);
-    if !tested.good {
-        return None;
-    }
+    let length = tested.value?;
     let specimens = written.next;
-    if specimens.at + tested.length + written.length != n {
+    if specimens.at + length + written.value != n {
         return None;
     }
-    let bodies = specimens.body(q, tested.length).next;
+    let bodies = specimens.body(q, length).next;
     Some(found(header, first, tested.next, specimens, bodies))
 }
 
