@@ -2,15 +2,15 @@
 -- means. Assumes nothing.
 use mathlib.Core.Path.{◌≡◌, refl, sym, ap, ◌∙◌}
 use mathlib.Core.Bool.{Bool, true, false, cond, not, ◌&&◌}
-use Rattle.std.specs.Prelude.{Option, Some, None, Result, Ok, Err}
+use Rattle.std.specs.Prelude.{Some, None, Ok, Err}
 use mathlib.Core.List.{List, [], ◌∷◌}
 use Prim.Native.Nat.{ℕ, zero, suc, ◌+◌, ◌*◌, ◌-◌, ◌≤◌, ◌<◌}
 use native.Mathlib.Omega.{arith}
-use native.Mathlib.Nat.{not-suc-le-zero}
 use lib.Dec.{eqb}
 use lib.ListN.{length, take, drop, length-drop}
 use lib.Seq.{take-take, take_all}
 use borrow.Author.Tests.{leb-true, eq-eqb, ne_eqb, le-leb, lt-leb}
+use Rattle.std.specs.List.{list_all, range_with_len}
 use Rattle.octets.specs.Numbers.{number, number_at}
 use Rattle.octets.specs.Strings.{all_zero}
 use Rattle.format.specs.Layout.{least, limit, leases_at, count_at, size_of, extras_of, records, leases_of, owner_of}
@@ -45,25 +45,20 @@ pub record_none : (p : ℕ) (c : List ℕ) → number_at 4 p c ≡ 0 → record_
 unfolding record_ok
 record_none p c h = rw (held_at p c, eq-eqb _ _ h)
 
--- ---- the loop over records: a turn, a stop, the end
-pub records_more : (n p : ℕ) (c : List ℕ) → 0 < n → record_ok (take record_size (drop p c)) ≡ true
-    → every record_ok (records n p c) ≡ every record_ok (records (n - 1) (p + record_size) c)
+-- ---- the records, each tested where it stands
+records_from : (n a p : ℕ) (c : List ℕ)
+    → list_all (λ i. record_ok (take record_size (drop (p + record_size * i) c))) (range_with_len a n)
+    ≡ every record_ok (records n (p + record_size * a) c)
 unfolding records every
-records_more zero p c h e = absurd (not-suc-le-zero h)
-records_more (suc n) p c h e =
-    let k : suc n - 1 ≡ n = omega arith in
-    rw (e, k)
+records_from zero a p c = refl
+records_from (suc n) a p c =
+    let k : p + record_size * a + record_size ≡ p + record_size * (a + 1) = omega arith in
+    rw (k, records_from n (a + 1) p c)
 
-pub records_stop : (n p : ℕ) (c : List ℕ) → 0 < n → record_ok (take record_size (drop p c)) ≡ false
-    → every record_ok (records n p c) ≡ false
-unfolding records every
-records_stop zero p c h e = absurd (not-suc-le-zero h)
-records_stop (suc n) p c h e = rw e
-
-pub records-end : (n p : ℕ) (c : List ℕ) → n ≤ 0 → every record_ok (records n p c) ≡ true
-unfolding records every
-records-end zero p c h = refl
-records-end (suc n) p c h = absurd (not-suc-le-zero h)
+pub records_each : (n p : ℕ) (c : List ℕ)
+    → list_all (λ i. record_ok (take record_size (drop (p + record_size * i) c))) (range_with_len 0 n)
+    ≡ every record_ok (records n p c)
+records_each n p c = let k : p + record_size * 0 ≡ p = omega arith in rw (records_from n 0 p c, k)
 
 -- ---- the last of the records
 pub last_none : (n p : ℕ) (c : List ℕ) → n ≡ 0 → last_held (records n p c) ≡ true

@@ -41,16 +41,7 @@ fn records_ok(c: &[u8], from: usize, n: usize) -> bool
     requires { from + record_size * n ≤ length c.now }
     ensures { result ≡ every record_ok (records n from c.now) }
 {
-    let mut left = n;
-    let mut at = from;
-    while 0 < left {
-        if !record_ok(c, at) {
-            return false;
-        }
-        left -= 1;
-        at += RECORD_SIZE;
-    }
-    true
+    (0..n).all(|i| record_ok(c, from + RECORD_SIZE * i))
 }
 
 fn last_held(c: &[u8], from: usize, n: usize) -> bool
