@@ -2,6 +2,13 @@
 // signature, chain, tree, share data, private key and spare bytes. Then shares that the writers write.
 #![tactic(auto)]
 
+// A table of cases: of each its name, and the fields in which it differs from the base.
+macro_rules! cases {
+    ($kind:ident from $base:ident; $($name:literal => { $($field:ident: $value:expr),* },)*) => {
+        &[$(($name, $kind { $($field: $value,)* ..$base })),*]
+    };
+}
+
 mod mdmf;
 mod sdmf;
 mod writers;
@@ -38,10 +45,10 @@ type Changes = &'static [(Field, u64)];
 
 // Stores bytes from `at` on, or none of them where there is no room for all.
 fn put(s: &mut [u8], at: usize, bytes: &[u8]) {
-    if let Some((_, rest)) = s.split_at_mut_checked(at) {
-        if let Some(place) = rest.get_mut(..bytes.len()) {
-            place.copy_from_slice(bytes);
-        }
+    if let Some((_, rest)) = s.split_at_mut_checked(at)
+        && let Some(place) = rest.get_mut(..bytes.len())
+    {
+        place.copy_from_slice(bytes);
     }
 }
 
@@ -105,11 +112,12 @@ impl Judged {
 
 impl fmt::Display for Judged {
     fn fmt<W: fmt::Write>(&self, f: &mut fmt::Formatter<W>) -> fmt::Result {
-        write!(
-            f,
-            "{}, edition {},",
-            self.checked.number, self.checked.edition
-        )?;
+        let Checked {
+            number,
+            edition,
+            ..
+        } = self.checked;
+        write!(f, "{number}, edition {edition},")?;
         for length in &self.lengths {
             write!(f, " {length}")?;
         }

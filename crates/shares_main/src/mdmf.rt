@@ -59,7 +59,7 @@ const FIELDS: Changes = &[
     (LAST_NODE, 16),
 ];
 
-// The first N bytes of that share, with zeros behind it; every other byte is 0.
+// The first N bytes of that share, and zeros behind it where N is more. Every byte that no field sets is 0.
 pub(crate) fn share<const N: usize>() -> [u8; N] {
     changed(&[0; N], FIELDS)
 }
@@ -155,93 +155,90 @@ const LATER_CASES: &[(&str, Changes)] = &[
     ),
 ];
 
-// A name, k, the segment size, the data length, and the sizes of share data and tree.
-type Sizes = (&'static str, u64, u64, u64, u16, u16);
+// Numbers of a share, and the sizes of its share data and its tree.
+#[derive(Clone, Copy)]
+struct Sizes {
+    k: u64,
+    segment: u64,
+    length: u64,
+    share_data: u16,
+    tree: u16,
+}
 
-const SIZED_CASES: &[Sizes] = &[
-    ("data length 0", 3, 12, 0, 0, 0),
-    ("data length 1", 3, 12, 1, 17, 32),
-    ("data length 2", 3, 12, 2, 17, 32),
-    ("data length 3", 3, 12, 3, 17, 32),
-    ("data length 4", 3, 12, 4, 18, 32),
-    ("data length 4, a byte less", 3, 12, 4, 17, 32),
-    ("data length 12", 3, 12, 12, 20, 32),
-    ("data length 13", 3, 12, 13, 37, 96),
-    ("data length 13, one salt and one hash", 3, 12, 13, 21, 32),
-    ("segment size 0 and no data", 3, 0, 0, 0, 0),
-    ("no data and a tree of 32 bytes", 3, 12, 0, 0, 32),
-    ("no data and a byte of share data", 3, 12, 0, 1, 0),
-    (
-        "no data, a tree of 32 bytes and segment size 0",
-        3,
-        0,
-        0,
-        0,
-        32,
-    ),
-    // Segments of 3 bytes, each with a salt and one byte, and the trees of the next smaller and larger depth.
-    ("1 segment", 3, 3, 3, 17, 32),
-    ("1 segment and no tree", 3, 3, 3, 17, 0),
-    ("1 segment, 3 hashes", 3, 3, 3, 17, 96),
-    ("2 segments", 3, 3, 6, 34, 96),
-    ("2 segments, 1 hash", 3, 3, 6, 34, 32),
-    ("2 segments, 7 hashes", 3, 3, 6, 34, 224),
-    ("3 segments", 3, 3, 9, 51, 224),
-    ("3 segments, 3 hashes", 3, 3, 9, 51, 96),
-    ("3 segments, 5 hashes", 3, 3, 9, 51, 160),
-    ("3 segments, a tree of 223 bytes", 3, 3, 9, 51, 223),
-    ("3 segments and no salt", 3, 3, 9, 3, 224),
-    ("3 segments, a byte of share data more", 3, 3, 9, 52, 224),
-    ("4 segments", 3, 3, 12, 68, 224),
-    ("4 segments, 15 hashes", 3, 3, 12, 68, 480),
-    ("5 segments", 3, 3, 15, 85, 480),
-    ("5 segments, 7 hashes", 3, 3, 15, 85, 224),
-    ("5 segments, 9 hashes", 3, 3, 15, 85, 288),
-    // The largest numbers.
-    ("segment size 2^64 - 1", 3, u64::MAX, 30, 26, 32),
-    ("segment size 2^64 - 2", 3, u64::MAX - 1, 30, 26, 32),
-    (
-        "segment size and data length 2^64 - 1",
-        3,
-        u64::MAX,
-        u64::MAX,
-        58,
-        32,
-    ),
-    (
-        "data length 2^64 - 1, two segments",
-        2,
-        u64::MAX - 1,
-        u64::MAX,
-        58,
-        96,
-    ),
-    (
-        "data length 2^64 - 1, 2^60 segments",
-        8,
-        16,
-        u64::MAX,
-        58,
-        224,
-    ),
-    (
-        "data length 2^64 - 1, k 1, segment size 1",
-        1,
-        1,
-        u64::MAX,
-        58,
-        224,
-    ),
-];
+const NO_DATA: Sizes = Sizes {
+    k: 3,
+    segment: 12,
+    length: 0,
+    share_data: 0,
+    tree: 0,
+};
 
-fn show_sized(out: &mut impl Write) -> io::Result<()> {
-    for &(name, k, segment, length, share_data, tree) in SIZED_CASES {
-        let tree_at = 2028 + share_data as u64;
-        let end = tree_at + tree as u64;
+const DATA_LENGTHS: &[(&str, Sizes)] = cases! { Sizes from NO_DATA;
+    "data length 0" => {},
+    "data length 1" => { length: 1, share_data: 17, tree: 32 },
+    "data length 2" => { length: 2, share_data: 17, tree: 32 },
+    "data length 3" => { length: 3, share_data: 17, tree: 32 },
+    "data length 4" => { length: 4, share_data: 18, tree: 32 },
+    "data length 4, a byte less" => { length: 4, share_data: 17, tree: 32 },
+    "data length 12" => { length: 12, share_data: 20, tree: 32 },
+    "data length 13" => { length: 13, share_data: 37, tree: 96 },
+    "data length 13, one salt and one hash" => { length: 13, share_data: 21, tree: 32 },
+    "segment size 0 and no data" => { segment: 0 },
+    "no data and a tree of 32 bytes" => { tree: 32 },
+    "no data and a byte of share data" => { share_data: 1 },
+    "no data, a tree of 32 bytes and segment size 0" => { segment: 0, tree: 32 },
+};
+
+const SMALL_SEGMENTS: Sizes = Sizes {
+    segment: 3,
+    ..NO_DATA
+};
+
+// Each segment has a salt and one byte. Beside its tree are those of the next smaller and larger depth.
+const SEGMENTS: &[(&str, Sizes)] = cases! { Sizes from SMALL_SEGMENTS;
+    "1 segment" => { length: 3, share_data: 17, tree: 32 },
+    "1 segment and no tree" => { length: 3, share_data: 17 },
+    "1 segment, 3 hashes" => { length: 3, share_data: 17, tree: 96 },
+    "2 segments" => { length: 6, share_data: 34, tree: 96 },
+    "2 segments, 1 hash" => { length: 6, share_data: 34, tree: 32 },
+    "2 segments, 7 hashes" => { length: 6, share_data: 34, tree: 224 },
+    "3 segments" => { length: 9, share_data: 51, tree: 224 },
+    "3 segments, 3 hashes" => { length: 9, share_data: 51, tree: 96 },
+    "3 segments, 5 hashes" => { length: 9, share_data: 51, tree: 160 },
+    "3 segments, a tree of 223 bytes" => { length: 9, share_data: 51, tree: 223 },
+    "3 segments and no salt" => { length: 9, share_data: 3, tree: 224 },
+    "3 segments, a byte of share data more" => { length: 9, share_data: 52, tree: 224 },
+    "4 segments" => { length: 12, share_data: 68, tree: 224 },
+    "4 segments, 15 hashes" => { length: 12, share_data: 68, tree: 480 },
+    "5 segments" => { length: 15, share_data: 85, tree: 480 },
+    "5 segments, 7 hashes" => { length: 15, share_data: 85, tree: 224 },
+    "5 segments, 9 hashes" => { length: 15, share_data: 85, tree: 288 },
+};
+
+const LONGEST: Sizes = Sizes {
+    length: u64::MAX,
+    share_data: 58,
+    tree: 224,
+    ..NO_DATA
+};
+
+const LARGEST_NUMBERS: &[(&str, Sizes)] = cases! { Sizes from LONGEST;
+    "segment size 2^64 - 1" => { segment: u64::MAX, length: 30, share_data: 26, tree: 32 },
+    "segment size 2^64 - 2" => { segment: u64::MAX - 1, length: 30, share_data: 26, tree: 32 },
+    "segment size and data length 2^64 - 1" => { segment: u64::MAX, tree: 32 },
+    "data length 2^64 - 1, two segments" => { k: 2, segment: u64::MAX - 1, tree: 96 },
+    "data length 2^64 - 1, 2^60 segments" => { k: 8, segment: 16 },
+    "data length 2^64 - 1, k 1, segment size 1" => { k: 1, segment: 1 },
+};
+
+fn show_sized(out: &mut impl Write, cases: &[(&str, Sizes)]) -> io::Result<()> {
+    for (name, sizes) in cases {
+        let tree_at = 2028 + sizes.share_data as u64;
+        let end = tree_at + sizes.tree as u64;
         let changes = [
-            (REQUIRED, k),
-            (SEGMENT, segment),
-            (LENGTH, length),
+            (REQUIRED, sizes.k),
+            (SEGMENT, sizes.segment),
+            (LENGTH, sizes.length),
             (TREE, tree_at),
             (END, end),
         ];
@@ -263,6 +260,7 @@ fn single() -> Judged {
     Judged::share(&changed(&share::<2330>(), &changes))
 }
 
+// The first n bytes of the share with this last node number, in a container.
 fn enclosed_share(node: u64, n: usize) -> Judged {
     let s = changed(&share::<2310>(), &[(LAST_NODE, node)]);
     Judged::container(&enclosed::<2800>(front(&s, n)))
@@ -287,7 +285,9 @@ pub(crate) fn run(out: &mut impl Write) -> io::Result<()> {
     )?;
     show_changed(out, &share, LATER_CASES)?;
     writeln!(out, "N 1 and no chain: {}", single())?;
-    show_sized(out)?;
+    show_sized(out, DATA_LENGTHS)?;
+    show_sized(out, SEGMENTS)?;
+    show_sized(out, LARGEST_NUMBERS)?;
     writeln!(
         out,
         "the share in a container: {}",

@@ -50,7 +50,7 @@ const FIELDS: Changes = &[
     (LAST_NODE, 16),
 ];
 
-// The first N bytes of that share, with zeros behind it; every other byte is 0.
+// The first N bytes of that share, and zeros behind it where N is more. Every byte that no field sets is 0.
 pub(crate) fn share<const N: usize>() -> [u8; N] {
     changed(&[0; N], FIELDS)
 }
@@ -147,6 +147,7 @@ const CASES: &[(&str, Changes)] = &[
     ),
 ];
 
+// The share with these changes, in a container.
 fn in_container(changes: Changes) -> [u8; 2600] {
     enclosed(&changed(&share::<2043>(), changes))
 }

@@ -66,14 +66,7 @@ const MDMF: Given = Given {
     ..SDMF
 };
 
-// A table of cases, each with what it changes in the share that stands first.
-macro_rules! cases {
-    ($base:ident; $($name:literal => { $($field:ident: $value:expr),* },)*) => {
-        &[$(($name, Given { $($field: $value,)* ..$base })),*]
-    };
-}
-
-const SDMF_CASES: &[(&str, Given)] = cases! { SDMF;
+const SDMF_CASES: &[(&str, Given)] = cases! { Given from SDMF;
     "the SDMF share, into seven bytes more" => {},
     "R of 31 bytes, into one byte" => { root: 31, space: 1 },
     "k 0, into one byte" => { k: 0, space: 1 },
@@ -88,7 +81,7 @@ const SDMF_CASES: &[(&str, Given)] = cases! { SDMF;
     "sequence number 2^64 - 1" => { sequence: u64::MAX },
 };
 
-const MDMF_CASES: &[(&str, Given)] = cases! { MDMF;
+const MDMF_CASES: &[(&str, Given)] = cases! { Given from MDMF;
     "the MDMF share, into seven bytes more" => {},
     "no spare byte" => { spare: 0 },
     "no data, segment size 12" => { length: 0, blocks: 0, tree: 0 },
@@ -161,21 +154,14 @@ fn write(given: &Given, d: &mut [u8]) -> Written {
     let key = front(&[26; 292], given.key);
     let tree = front(&[27; 480], given.tree);
     let share_data = front(&[28; 85], given.blocks);
-    let Given {
-        sequence,
-        k,
-        segment,
-        length,
-        ..
-    } = *given;
     match given.edition {
         Edition::Sdmf => share_writing::write_sdmf(
-            sequence,
+            given.sequence,
             root,
             &[22; 16],
-            k,
+            given.k,
             10,
-            length,
+            given.length,
             key,
             signature,
             chain,
@@ -185,12 +171,12 @@ fn write(given: &Given, d: &mut [u8]) -> Written {
             d,
         ),
         Edition::Mdmf => share_writing::write_mdmf(
-            sequence,
+            given.sequence,
             root,
-            k,
+            given.k,
             10,
-            segment,
-            length,
+            given.segment,
+            given.length,
             private_key,
             chain,
             signature,
