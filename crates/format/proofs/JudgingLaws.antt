@@ -1,7 +1,7 @@
 -- What the tests of the judging pass say, in the form in which the code reads the buffer, and what each answer of it
 -- means. Assumes nothing.
 use mathlib.Core.Path.{◌≡◌, refl, sym, ap, ◌∙◌}
-use mathlib.Core.Bool.{Bool, true, false, cond, not, ◌&&◌}
+use mathlib.Core.Bool.{Bool, true, false, not, ◌&&◌}
 use Rattle.std.specs.Prelude.{Some, None, Ok, Err}
 use mathlib.Core.List.{List, [], ◌∷◌}
 use Prim.Native.Nat.{ℕ, zero, suc, ◌+◌, ◌*◌, ◌-◌, ◌≤◌, ◌<◌}
@@ -18,7 +18,8 @@ use Rattle.format.specs.Layout.{data_at, extra_limit, record_size, size_width, s
 use Rattle.format.specs.Layout.{count_size, used_length, extras_at, used_end, data_end, slack_of}
 use Rattle.format.specs.Container.{length_allowed, held, record_ok, last_held, fields_ok, contents_ok, well_formed}
 use Rattle.format.specs.Judging.{fields_found, Framed, Judges, Known, frame_of}
-use Rattle.octets.proofs.ListLaws.{both, and_assoc, every_append}
+use Rattle.std.proofs.lemmas.Option.{cond_some, none-some}
+use Rattle.octets.proofs.ListLaws.{both, by_refuting, and_assoc, every_append}
 use Rattle.format.proofs.WellFormed.{fields_facts, formed_facts, used_is, last_held-records}
 use Rattle.format.proofs.WellFormed.{Fields}
 use Rattle.format.proofs.RoundTrip.{extra_leases}
@@ -153,18 +154,10 @@ known_most c f k = (formed_facts c k.formed).most
 
 -- ---- what `find_fields` tells its caller
 pub found_agree : (c : List ℕ) (f : Frame) → Some f ≡ fields_found c → Framed c f
-found_agree c f p = go (fields_ok c) refl p
-  where
-    go : (t : Bool) → fields_ok c ≡ t → Some f ≡ cond t (Some (frame_of c)) None → Framed c f
-    go true h q = record { is = cc; agree = h }
-    go false h q = absurd (let z : ◌≡◌ {A = ℕ} 0 1 = cc in omega arith)
+found_agree c f p = let k = cond_some (fields_ok c) (frame_of c) f (sym p) in record { is = sym k.1; agree = k.0 }
 
 pub found_disagree : (c : List ℕ) → None ≡ fields_found c → fields_ok c ≡ false
-found_disagree c p = go (fields_ok c) refl p
-  where
-    go : (t : Bool) → fields_ok c ≡ t → None ≡ cond t (Some (frame_of c)) None → fields_ok c ≡ false
-    go true h q = absurd (let z : ◌≡◌ {A = ℕ} 0 1 = cc in omega arith)
-    go false h q = h
+found_disagree c p = by_refuting (fields_ok c) (λ h. none-some (frame_of c) (p ∙ rw h))
 
 -- ---- what `judge` answers
 pub judge_length : (c : List ℕ) → length_allowed c ≡ false → Judges c (Err BadLength)
@@ -195,11 +188,8 @@ module _ (c : List ℕ) (f : Frame) (l : length_allowed c ≡ true) (found : Som
 
 -- ---- what an answer of `judge` means
 pub judged_formed : (c : List ℕ) (f : Frame) → Judges c (Ok f) → Known c f
-judged_formed c f j = go (well_formed c) refl j.frame
-  where
-    go : (w : Bool) → well_formed c ≡ w → Some f ≡ cond w (Some (frame_of c)) None → Known c f
-    go true h q = record { is = cc; formed = h }
-    go false h q = absurd (let z : ◌≡◌ {A = ℕ} 0 1 = cc in omega arith)
+judged_formed c f j =
+    let k = cond_some (well_formed c) (frame_of c) f (sym j.frame) in record { is = sym k.1; formed = k.0 }
 
 pub judged-malformed : (c : List ℕ) → Judges c (Err Malformed) → (length_allowed c ≡ true) × (well_formed c ≡ false)
 unfolding first_row
