@@ -7,7 +7,7 @@ use Prim.Native.Nat.{ℕ, suc, ◌+◌, ◌*◌, ◌-◌, ◌≤◌, ◌<◌, mi
 use native.Mathlib.Omega.{arith}
 use lib.ListN.{length}
 use lib.Dec.{ltb}
-use borrow.Author.Tests.{ltb-true, ltb-false, lt-ltb, le-ltb}
+use borrow.Author.Tests.{ltb-true, ltb-false}
 use Rattle.octets.specs.Facts.{Fits32}
 use Rattle.stretches.specs.Stretches.{Stretch, end_of, between, below, above}
 use Rattle.stretches.specs.List.{rows_from}
@@ -46,15 +46,7 @@ outside_is a e low (r ∷ rs) n g h = go (ltb a (end_of r)) refl (outside_is a e
         let z : y ≡ [] = between_none (max e r.start) (end_of r) (omega arith) in
         rw (ih, z) (sym (append_assoc x (below a rs) (above e rs)))
 
--- ---- one of two spans: by the test, and what it names where one is empty
-pub chosen_first : (s u : Span) → s.from < s.to → s ≡ chosen s u
-unfolding chosen
-chosen_first s u h = rw (lt-ltb s.from s.to h)
-
-pub chosen_other : (s u : Span) → s.to ≤ s.from → u ≡ chosen s u
-unfolding chosen
-chosen_other s u h = rw (le-ltb s.from s.to h)
-
+-- ---- one of two spans: what it names where one is empty
 chosen_is : (s u : Span) → (u.from < u.to → s.to ≤ s.from)
     → between (chosen s u).from (chosen s u).to ≡ between u.from u.to ++ between s.from s.to
 unfolding chosen

@@ -16,21 +16,14 @@ pub const ROW_LIMIT: usize = 256;
 pub const ROWS_AT: usize = 4;
 
 // Whether a row is not empty, starts at `low` or above, ends inside the data, and names only zeros.
+#[tactic(auto, unfolding(crate::specs::Tables::span_ok))]
 fn row_ok(row: Span, low: usize, d: &[u8]) -> bool
     ensures { result ≡ span_ok low row d.now }
 {
-    let from = row.from;
-    let to = row.to;
-    if from < low {
-        return false;
-    }
-    if to <= from {
-        return false;
-    }
-    if d.len() < to {
-        return false;
-    }
-    octets::strings::all_zero(&d[from..to])
+    low <= row.from
+        && row.from < row.to
+        && row.to <= d.len()
+        && octets::strings::all_zero(&d[row.from..row.to])
 }
 
 // Whether the n rows of a table are in order, apart, inside the data, and name only zeros.
@@ -39,15 +32,13 @@ fn rows_ok(t: &[u8], n: usize, d: &[u8]) -> bool
     ensures { result ≡ (rising 0 (rows_from n 0 t.now) (length d.now)
         && every (zero_in d.now) (rows_from n 0 t.now)) }
 {
-    let mut i = 0;
     let mut low = 0;
-    while i < n {
+    for i in 0..n {
         let row = row_at(t, i);
         if !row_ok(row, low, d) {
             return false;
         }
         low = row.to + 1;
-        i += 1;
     }
     true
 }

@@ -5,8 +5,6 @@ ghost use Rattle.stretches.specs.Stretches.{below, above, joined, written_over};
 ghost use Rattle.stretches.specs.List.{row_size, rows_from};
 ghost use Rattle.lists.specs.Tables.{table_rows, span_at, pushed, pushed_count, chosen, Ready, Ordered, Holds};
 
-use octets::choices::{greater, lesser};
-
 // A row: start 4, length 4.
 pub const ROW_SIZE: usize = 8;
 
@@ -52,13 +50,11 @@ fn push(t: &mut [u8], i: usize, s: Span) -> usize
 }
 
 // The first of two spans unless it is empty.
+#[tactic(auto, unfolding(crate::specs::Tables::chosen))]
 fn choose(first: Span, other: Span) -> Span
     ensures { result ≡ chosen first other }
 {
-    if first.from < first.to {
-        return first;
-    }
-    other
+    if first.from < first.to { first } else { other }
 }
 
 // The positions from a up to e are taken out of n rows, in one pass; how many rows there are then. A row is split in two
@@ -68,21 +64,19 @@ fn take_out(t: &mut [u8], n: usize, a: usize, e: usize) -> usize
     requires { Ordered t.old n × ((n < table_rows) × (a ≤ e)) }
     ensures { Holds t.new result (below a (rows_from n 0 t.old) ++ above e (rows_from n 0 t.old)) }
 {
-    let mut i = 0;
     let mut count = 0;
     let mut held = Span { from: 0, to: 0 };
-    while i < n {
+    for i in 0..n {
         let row = row_at(t, i);
         let low = Span {
             from: row.from,
-            to: lesser(a, row.to),
+            to: a.min(row.to),
         };
         count = push(t, count, choose(low, held));
         held = Span {
-            from: greater(e, row.from),
+            from: e.max(row.from),
             to: row.to,
         };
-        i += 1;
     }
     push(t, count, held)
 }
@@ -128,5 +122,5 @@ pub fn cut_to(t: &mut [u8], n: usize, size: usize, m: usize) -> usize
     requires { Ready t.old n size × (n < table_rows) }
     ensures { Holds t.new result (below m (rows_from n 0 t.old)) }
 {
-    take_out(t, n, m, greater(m, size))
+    take_out(t, n, m, m.max(size))
 }

@@ -1,7 +1,6 @@
 -- The invariant: what is kept, what is held back and what the rows left name outside of a up to e are the whole.
 -- Assumes nothing.
 use native.Mathlib.Omega.{arith}
-use Rattle.octets.proofs.ChoiceLaws.{least_is, most_is}
 use Rattle.lists.proofs.TakingLaws.{taking_start, turn_asks, taking_turn, taking_end}
 use Rattle.lists.proofs.rows.take_out.Goals as goal
 
@@ -18,17 +17,17 @@ push-count-requires c =
     let a = c.args in
     let o = c.loop-i in
     turn_asks a.t.now a.n a.a a.e o.t o.i o.count o.held c.row_at-row.result o.invariant
-    c.requires.1.0 c.requires.1.1 (omega arith) c.row_at-row.ensures c.lesser.result
-    (least_is _ _ _ c.lesser.ensures) c.choose.result c.choose.ensures
+    c.requires.1.0 c.requires.1.1 (omega arith) c.row_at-row.ensures c.min.result
+    c.min.ensures c.choose.result c.choose.ensures
 
 pub loop-i-preserved : goal.loop-i-preserved
 loop-i-preserved c =
     let a = c.args in
     let o = c.loop-i in
     taking_turn a.t.now a.n a.a a.e o.t o.i o.count o.held c.row_at-row.result o.invariant
-    c.requires.1.0 c.requires.1.1 (omega arith) c.row_at-row.ensures c.lesser.result
-    (least_is _ _ _ c.lesser.ensures) c.choose.result c.choose.ensures c.greater.result
-    (most_is _ _ _ c.greater.ensures) c.push-count.new.t c.push-count.result (c.push-count.ensures.value, c.push-count.ensures.t_after)
+    c.requires.1.0 c.requires.1.1 (omega arith) c.row_at-row.ensures c.min.result
+    c.min.ensures c.choose.result c.choose.ensures c.max.result
+    c.max.ensures c.push-count.new.t c.push-count.result (c.push-count.ensures.value, c.push-count.ensures.t_after)
 
 pub push-requires : goal.push-requires
 push-requires c =

@@ -1,11 +1,7 @@
 -- The invariant: what is kept, what is held back and what the rows left name outside of a up to e are the whole.
 -- Assumes nothing.
-use Prim.Native.Nat.{◌-◌}
 use Rattle.lists.proofs.TakingLaws.{Taking}
 use Rattle.lists.proofs.rows.take_out.Given as goal
 
 abbrev pub invariant-loop-i : goal.invariant-loop-i
 invariant-loop-i l = Taking l.initial.t l.n l.a l.e l.t l.i l.count l.held
-
-abbrev pub decreases-loop-i : goal.decreases-loop-i
-decreases-loop-i l = l.n - l.i
