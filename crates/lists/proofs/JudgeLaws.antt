@@ -18,7 +18,7 @@ use Rattle.stretches.specs.Stretches.{Stretch, stretch, rising}
 use Rattle.stretches.specs.List.{list_length, row_limit, rows_at, row_size, row_count, rows_from, stretches_of}
 use Rattle.stretches.specs.List.{zero_in, list_ok}
 use Rattle.lists.specs.declared.rows.Span.{Span}
-use Rattle.lists.specs.Tables.{span_at, span_ok}
+use Rattle.lists.specs.Spans.{span_at, span_ok}
 
 -- ---- a row judged
 module _ (low : ℕ) (s : Span) (d : List ℕ) where
