@@ -16,10 +16,9 @@ pub fn grown(size: usize, position: usize, count: usize) -> usize
     ensures { result ≡ grow size position count }
 {
     if count == 0 {
-        size
-    } else {
-        size.max(position + count)
+        return size;
     }
+    size.max(position + count)
 }
 
 // The end of the last gap after one write.
