@@ -1,6 +1,6 @@
 -- The pieces that tables ask for, turns of the walks over a table, and the reply. Assumes nothing.
 use mathlib.Core.Path.{◌≡◌, refl, sym, ap, ◌∙◌}
-use mathlib.Core.Bool.{Bool, true, false, ◌&&◌}
+use mathlib.Core.Bool.{Bool, true, false, cond, ◌&&◌}
 use mathlib.Core.List.{List, [], ◌∷◌, ◌++◌, map}
 use Prim.Native.Nat.{ℕ, zero, suc, ◌+◌, ◌*◌, ◌-◌, ◌≤◌, ◌<◌}
 use native.Mathlib.Nat.{mul-suc}
@@ -30,6 +30,7 @@ use Rattle.requests.specs.declared.cursors.Entry.{Entry}
 use Rattle.requests.specs.declared.cursors.TestEntry.{TestEntry}
 use Rattle.requests.specs.declared.forms.Table.{Table}
 use Rattle.std.specs.Prelude.{Option, Some, None}
+use Rattle.std.proofs.lemmas.Option.{cond_some}
 
 -- ---- the tests and reads of a request ask for the pieces of its table
 pub test_pieces : (n p b : ℕ) (q d : List ℕ) → map (test_piece d) (tests_from n p b q) ≡ pieces_from test_size n p q d
@@ -237,6 +238,19 @@ module _ {t : Table} {q d : List ℕ} {sum at left : ℕ} (M : Measuring t q d s
       ap (λ (ps : List (List ℕ)). length (reply_of ps)) (pieces_end t.stride left at q d h) ∙ reply_none in
       let c : sum ≡ length (reply_of (pieces_in t q d)) = omega (arith, M.summed) in
       rw (a, ← c)
+
+-- What it tells: whether every offset resolves, and the length of the reply.
+pub measured-some : (t : Table) (q d : List ℕ) (n : ℕ) → measured_of t q d ≡ Some n
+    → (resolve_from t.stride t.count t.first.at q (length d) ≡ true) × (length (reply_of (pieces_in t q d)) ≡ n)
+measured-some t q d n e = cond_some (resolve_from t.stride t.count t.first.at q (length d)) _ n e
+
+pub measured-none : (t : Table) (q d : List ℕ) → measured_of t q d ≡ None
+    → resolve_from t.stride t.count t.first.at q (length d) ≡ false
+measured-none t q d e = go (resolve_from t.stride t.count t.first.at q (length d)) e
+  where
+    go : (b : Bool) → cond b (Some (length (reply_of (pieces_in t q d)))) None ≡ None → b ≡ false
+    go true h = cc
+    go false h = refl
 
 -- ---- writing
 -- The table, and the pieces right behind it.
