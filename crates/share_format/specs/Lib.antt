@@ -2,6 +2,6 @@
 pub mod Bounds
 pub mod Header
 pub mod Parts
-pub mod Numbering
+pub mod Editions
 pub mod Facts
 pub mod Claims

@@ -1,24 +1,54 @@
 // The share writers: from numbers and parts to a share's bytes in lent space.
 #![tactic(auto)]
 
-ghost use Rattle.std.specs.Prelude.{◌≡◌, true, [], ◌∷◌, ◌++◌, ◌+◌, ◌≤◌, ◌<◌, leb, length, get_or};
+ghost use Rattle.std.specs.Prelude.{◌≡◌, true, [], ◌∷◌, ◌++◌, ◌+◌, ◌≤◌, ◌<◌, leb, length, get_or, SomeIff};
 ghost use Rattle.octets.specs.Facts.{Each, Fits64};
 ghost use Rattle.octets.specs.Lists.{sum};
 ghost use Rattle.octets.specs.Moves.{put};
 ghost use Rattle.octets.specs.Strings.{join};
 ghost use Rattle.share_format.specs.Bounds.{packed};
+ghost use Rattle.share_format.specs.Editions.{is_mdmf};
 ghost use Rattle.share_format.specs.Header.{header_size, number_fields, offset_fields};
 ghost use Rattle.share_rules.specs.Writing.{sdmf_with, mdmf_with, segment_fits, bounds_fit, written_answer, space_after};
-ghost use Rattle.share_writing.specs.Facts.{segment_for, Packed, HeaderFits, Judges};
+ghost use Rattle.share_writing.specs.Facts.{segment_for, refusal_number, Packed, HeaderFits, Judges};
+ghost use Rattle.share_writing.specs.declared.Refusal.TheVariants.{Share};
 
 use octets::moves;
 use share_contents::contents;
-use share_format::header;
-use share_format::header::HASH_SIZE;
-use share_numbers::coding::Multiple;
+use share_contents::faults::Fault;
+use share_format::header::{Edition, HASH_SIZE, Numbers};
 use share_numbers::{coding, order};
 use share_rules::Written;
 use share_storing::fields;
+
+// Why a share is not written: R or IV has another size, the space is too short, or the checker would refuse the share.
+#[derive(Clone, Copy, Debug, PartialEq, Eq)]
+pub(crate) enum Refusal {
+    Fields,
+    Space,
+    Share(Fault),
+}
+
+impl Refusal {
+    // The row's number.
+    fn number(self) -> u32
+        ensures { result ≡ refusal_number self }
+    {
+        match self {
+            Refusal::Fields => 3,
+            Refusal::Space => 7,
+            Refusal::Share(fault) => fault.number(),
+        }
+    }
+}
+
+impl From<Fault> for Refusal {
+    ghost from_gives = { λ fault refusal. refusal ≡ Share fault };
+
+    fn from(fault: Fault) -> Refusal {
+        Refusal::Share(fault)
+    }
+}
 
 // Row 7. The parts are taken off the space one by one, so that no sum of their sizes is formed.
 fn has_room(space: usize, header: usize, sizes: &[usize]) -> bool
@@ -28,14 +58,11 @@ fn has_room(space: usize, header: usize, sizes: &[usize]) -> bool
         return false;
     }
     let mut left = space - header;
-    let mut i = 0;
-    while i < sizes.len() {
-        let n = sizes[i];
+    for &n in sizes {
         if left < n {
             return false;
         }
         left -= n;
-        i += 1;
     }
     true
 }
@@ -56,108 +83,78 @@ fn places(header: u64, sizes: [usize; 7]) -> [u64; 8]
 }
 
 // Row 24, and the segment size: MDMF's is given, SDMF's follows.
-fn segment_of(mdmf: bool, given: u64, k: u64, data_length: u64) -> Multiple
+fn segment_of(edition: Edition, given: u64, k: u64, data_length: u64) -> Option<u64>
     requires { 0 < k }
-    ensures { (result.fits ≡ segment_fits mdmf (segment_for mdmf given k data_length) k data_length)
-        × (result.fits ≡ true → result.value ≡ segment_for mdmf given k data_length) }
+    ensures { SomeIff result
+        (segment_fits (is_mdmf edition) (segment_for (is_mdmf edition) given k data_length) k data_length ≡ true)
+        (segment_for (is_mdmf edition) given k data_length) }
 {
-    if mdmf {
-        return Multiple {
-            fits: coding::segment_ok(true, given, k, data_length),
-            value: given,
-        };
+    match edition {
+        Edition::Sdmf => coding::least_multiple(k, data_length),
+        Edition::Mdmf => coding::segment_ok(edition, given, k, data_length).then_some(given),
     }
-    coding::least_multiple(k, data_length)
 }
 
 // Row 25.
-fn bounds_fit(mdmf: bool, bounds: [u64; 8]) -> bool
+#[tactic(auto, unfolding(share_rules::specs::Writing::bounds_fit))]
+fn bounds_fit(edition: Edition, bounds: [u64; 8]) -> bool
     requires { Each Fits64 bounds }
-    ensures { result ≡ bounds_fit mdmf bounds }
+    ensures { result ≡ bounds_fit (is_mdmf edition) bounds }
 {
-    if !order::placed_ok(mdmf, bounds) {
-        return false;
-    }
-    fields::offsets_fit(mdmf, bounds)
+    order::placed_ok(edition, bounds) && fields::offsets_fit(edition, bounds)
 }
 
-// What the rows say of a share: the number and, on 0, the segment size and the boundaries of the parts.
+// What a share that is to be written has besides what is given: its numbers with the segment size, and the boundaries
+// of the parts.
 #[derive(Clone, Copy)]
 pub(crate) struct Verdict {
-    pub(crate) number: u32,
-    pub(crate) segment: u64,
+    pub(crate) numbers: Numbers,
     pub(crate) bounds: [u64; 8],
 }
 
-fn refused(number: u32) -> Verdict
-    ensures { result.number ≡ number }
-{
-    Verdict {
-        number,
-        segment: 0,
-        bounds: [0; 8],
-    }
-}
-
-// The lowest number that applies, or 0. The parts are known by their sizes, in the order in which they lie, and the
-// three that the rows look into.
+// What the lowest row that applies says of a share, if any does. The parts are known by their sizes, in the order in
+// which they lie, and the three that the rows look into; the segment size is MDMF's.
 fn verdict_of(
-    mdmf: bool,
-    sequence: u64,
+    edition: Edition,
+    numbers: Numbers,
     root: &[u8],
     iv: &[u8],
-    required: u8,
-    total: u8,
-    given: u64,
-    data_length: u64,
     sizes: [usize; 7],
     chain: &[u8],
     tree: &[u8],
     share_data: &[u8],
     space: usize,
-) -> Verdict
+) -> Result<Verdict, Refusal>
     requires { length sizes ≡ 7 }
-    ensures { Judges mdmf sequence root.now iv.now required total given data_length sizes
-        chain.now tree.now share_data.now space result }
+    ensures { Judges (is_mdmf edition) numbers root.now iv.now sizes chain.now tree.now
+        share_data.now space result }
 {
     if root.len() != HASH_SIZE {
-        return refused(3);
+        return Err(Refusal::Fields);
     }
-    if iv.len() != header::iv_size(mdmf) {
-        return refused(3);
+    if iv.len() != edition.iv_size() {
+        return Err(Refusal::Fields);
     }
-    let header = header::size(mdmf);
+    let header = edition.header_size();
     if !has_room(space, header as usize, &sizes) {
-        return refused(7);
+        return Err(Refusal::Space);
     }
-    if !coding::coding_ok(required, total) {
-        return refused(23);
+    let k = numbers.required;
+    if !coding::coding_ok(k, numbers.total) {
+        return Err(Refusal::Share(Fault::Coding));
     }
-    let segment = segment_of(mdmf, given, required as u64, data_length);
-    if !segment.fits {
-        return refused(24);
-    }
+    let found = segment_of(edition, numbers.segment_size, k as u64, numbers.data_length);
+    let segment = found.ok_or(Refusal::Share(Fault::SegmentSize))?;
     let bounds = places(header, sizes);
-    if !bounds_fit(mdmf, bounds) {
-        return refused(25);
+    if !bounds_fit(edition, bounds) {
+        return Err(Refusal::Share(Fault::Offsets));
     }
-    let value = segment.value;
-    let number = contents::content_outcome(
-        mdmf,
-        sequence,
-        required,
-        total,
-        value,
-        data_length,
-        chain,
-        tree,
-        share_data,
-    );
-    Verdict {
-        number,
-        segment: value,
-        bounds,
-    }
+    let numbers = Numbers {
+        segment_size: segment,
+        ..numbers
+    };
+    contents::content_outcome(edition, numbers, chain, tree, share_data)?;
+    Ok(Verdict { numbers, bounds })
 }
 
 // Stores each part at its boundary, behind the header.
@@ -193,15 +190,10 @@ fn put_parts(
 // Writes a share that nothing refuses: the header, then the parts in the order in which they lie.
 fn lay_out(
     d: &mut [u8],
-    mdmf: bool,
-    segment: u64,
-    bounds: [u64; 8],
-    sequence: u64,
+    edition: Edition,
+    verdict: Verdict,
     root: &[u8],
     iv: &[u8],
-    required: u8,
-    total: u8,
-    data_length: u64,
     first: &[u8],
     second: &[u8],
     third: &[u8],
@@ -210,31 +202,24 @@ fn lay_out(
     sixth: &[u8],
     seventh: &[u8],
 )
-    requires { HeaderFits mdmf root.now iv.now bounds (length d.old)
-        × Packed (header_size mdmf) bounds (length first.now) (length second.now) (length third.now)
-        (length fourth.now) (length fifth.now) (length sixth.now) (length seventh.now)
-        × (get_or bounds 7 0 ≤ length d.old) }
+    requires { HeaderFits (is_mdmf edition) root.now iv.now verdict.bounds (length d.old)
+        × Packed (header_size (is_mdmf edition)) verdict.bounds (length first.now)
+        (length second.now) (length third.now) (length fourth.now) (length fifth.now)
+        (length sixth.now) (length seventh.now)
+        × (get_or verdict.bounds 7 0 ≤ length d.old) }
     ensures { d.new
         ≡ put 0
-        (join (number_fields mdmf sequence root.now iv.now required total segment data_length)
-        ++ (join (offset_fields mdmf bounds)
+        (join (number_fields (is_mdmf edition) verdict.numbers.sequence root.now iv.now
+        verdict.numbers.required verdict.numbers.total verdict.numbers.segment_size
+        verdict.numbers.data_length)
+        ++ (join (offset_fields (is_mdmf edition) verdict.bounds)
         ++ join
         (first.now ∷ second.now ∷ third.now ∷ fourth.now
         ∷ fifth.now ∷ sixth.now ∷ seventh.now ∷ [])))
         d.old }
 {
-    fields::put_header(
-        d,
-        mdmf,
-        sequence,
-        root,
-        iv,
-        required,
-        total,
-        segment,
-        data_length,
-        bounds,
-    );
+    let bounds = verdict.bounds;
+    fields::put_header(d, edition, verdict.numbers, root, iv, bounds);
     put_parts(
         d, bounds, first, second, third, fourth, fifth, sixth, seventh,
     );
@@ -278,37 +263,38 @@ pub fn write_sdmf(
         private_key.len(),
         0,
     ];
-    let verdict = verdict_of(
-        false,
+    let numbers = Numbers {
         sequence,
-        root,
-        iv,
         required,
         total,
-        0,
+        segment_size: 0,
         data_length,
+    };
+    let verdict = match verdict_of(
+        Edition::Sdmf,
+        numbers,
+        root,
+        iv,
         sizes,
         chain,
         tree,
         share_data,
         d.len(),
-    );
-    let number = verdict.number;
-    if number != 0 {
-        return Written { number, length: 0 };
-    }
-    let bounds = verdict.bounds;
+    ) {
+        Ok(verdict) => verdict,
+        Err(refusal) => {
+            return Written {
+                number: refusal.number(),
+                length: 0,
+            };
+        }
+    };
     lay_out(
         d,
-        false,
-        verdict.segment,
-        bounds,
-        sequence,
+        Edition::Sdmf,
+        verdict,
         root,
         iv,
-        required,
-        total,
-        data_length,
         key,
         signature,
         chain,
@@ -319,7 +305,7 @@ pub fn write_sdmf(
     );
     Written {
         number: 0,
-        length: bounds[7],
+        length: verdict.bounds[7],
     }
 }
 
@@ -362,37 +348,38 @@ pub fn write_mdmf(
         share_data.len(),
         tree.len(),
     ];
-    let verdict = verdict_of(
-        true,
+    let numbers = Numbers {
         sequence,
-        root,
-        b"",
         required,
         total,
         segment_size,
         data_length,
+    };
+    let verdict = match verdict_of(
+        Edition::Mdmf,
+        numbers,
+        root,
+        b"",
         sizes,
         chain,
         tree,
         share_data,
         d.len(),
-    );
-    let number = verdict.number;
-    if number != 0 {
-        return Written { number, length: 0 };
-    }
-    let bounds = verdict.bounds;
+    ) {
+        Ok(verdict) => verdict,
+        Err(refusal) => {
+            return Written {
+                number: refusal.number(),
+                length: 0,
+            };
+        }
+    };
     lay_out(
         d,
-        true,
-        verdict.segment,
-        bounds,
-        sequence,
+        Edition::Mdmf,
+        verdict,
         root,
         b"",
-        required,
-        total,
-        data_length,
         private_key,
         chain,
         signature,
@@ -403,6 +390,6 @@ pub fn write_mdmf(
     );
     Written {
         number: 0,
-        length: bounds[7],
+        length: verdict.bounds[7],
     }
 }

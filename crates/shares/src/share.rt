@@ -3,11 +3,12 @@ ghost use Rattle.std.specs.Prelude.{◌≡◌, true, ◌+◌, ◌≤◌, eqb, le
 ghost use Rattle.container.specs.Data.{beyond, data_lent};
 ghost use Rattle.share_format.specs.Facts.{PartsInside};
 ghost use Rattle.share_format.specs.Header.{version_of, edition_of, header_size, bounds_of};
-ghost use Rattle.share_format.specs.Numbering.{part_number};
+ghost use Rattle.share_format.specs.Editions.{is_mdmf, part_number};
 ghost use Rattle.shares.specs.Share.{refused, bounds_at, checked_at, checked_of, share_part, part_at};
 ghost use Rattle.shares.specs.Share.{checked_container, container_part, container_part_at};
 ghost use Rattle.octets.specs.Facts.{Fits64};
 
+use share_format::header::Edition;
 use share_format::parts::Part;
 use share_format::{bounds, header};
 use share_judging::judging;
@@ -15,8 +16,8 @@ use share_judging::judging;
 // MDMF, as the answer's edition has it.
 pub const MDMF: u32 = header::MDMF_VERSION as u32;
 
-// The outcome's number, the edition, and the boundaries of the parts (all 0 on a refusal). SDMF has six parts, so that
-// its last two boundaries are the same.
+// The C interface's record: the outcome's number, the edition, and the boundaries of the parts (all 0 on a refusal).
+// SDMF has six parts, so that its last two boundaries are the same.
 #[repr(C)]
 #[derive(Clone, Copy)]
 pub struct Checked {
@@ -25,23 +26,36 @@ pub struct Checked {
     pub bounds: [u64; 8],
 }
 
-fn refused(mdmf: bool, number: u32) -> Checked
-    ensures { result ≡ refused mdmf number }
+impl Checked {
+    // The edition that the answer names, by its version byte.
+    fn named(&self) -> Edition
+        ensures { is_mdmf result ≡ eqb self.now.edition (version_of true) }
+    {
+        if self.edition == MDMF {
+            Edition::Mdmf
+        } else {
+            Edition::Sdmf
+        }
+    }
+}
+
+fn refused(edition: Edition, number: u32) -> Checked
+    ensures { result ≡ refused (is_mdmf edition) number }
 {
     Checked {
         number,
-        edition: header::version_of(mdmf) as u32,
+        edition: edition.version() as u32,
         bounds: [0; 8],
     }
 }
 
 // The boundaries of a share that begins at byte `base` of the caller's slice.
-fn bounds_at(s: &[u8], mdmf: bool, base: u64) -> [u64; 8]
-    requires { (mdmf ≡ edition_of s.now) × (header_size mdmf ≤ length s.now)
-        × PartsInside (bounds_of mdmf s.now) (length s.now) × Fits64 (base + length s.now) }
+fn bounds_at(s: &[u8], edition: Edition, base: u64) -> [u64; 8]
+    requires { (is_mdmf edition ≡ edition_of s.now) × (header_size (is_mdmf edition) ≤ length s.now)
+        × PartsInside (bounds_of (is_mdmf edition) s.now) (length s.now) × Fits64 (base + length s.now) }
     ensures { result ≡ bounds_at base s.now }
 {
-    let bounds = header::bounds(s, mdmf);
+    let bounds = header::bounds(s, edition);
     [
         base + bounds[0],
         base + bounds[1],
@@ -58,15 +72,14 @@ fn checked_at(s: &[u8], base: u64) -> Checked
     requires { Fits64 (base + length s.now) }
     ensures { result ≡ checked_at base s.now }
 {
-    let mdmf = header::is_mdmf(s);
-    let number = judging::outcome(s);
-    if number != 0 {
-        return refused(mdmf, number);
-    }
-    Checked {
-        number: 0,
-        edition: header::version_of(mdmf) as u32,
-        bounds: bounds_at(s, mdmf, base),
+    let edition = Edition::of(s);
+    match judging::outcome(s) {
+        Ok(()) => Checked {
+            number: 0,
+            edition: edition.version() as u32,
+            bounds: bounds_at(s, edition, base),
+        },
+        Err(fault) => refused(edition, fault.number()),
     }
 }
 
@@ -82,18 +95,11 @@ pub fn check_container(c: &[u8]) -> Checked
 {
     let lent = container::data::find_data(c);
     if lent.number != 0 {
-        return refused(false, lent.number);
+        return refused(Edition::Sdmf, lent.number);
     }
     let a = lent.from;
     let e = lent.to;
     checked_at(&c[a..e], a as u64)
-}
-
-// The numbers of the parts are those of the edition that the answer names.
-fn is_mdmf(checked: &Checked) -> bool
-    ensures { result ≡ eqb checked.now.edition (version_of true) }
-{
-    checked.edition == MDMF
 }
 
 // A part of a share, that very part of the slice; on a refusal each is empty, at the slice's start. SDMF has no spare
@@ -104,7 +110,7 @@ pub fn part(s: &[u8], part: Part) -> &[u8]
         ≡ beyond s.entry.ref_ptr (part_at (part_number part (edition_of s.now)) s.now) }
 {
     let checked = check(s);
-    bounds::part(s, checked.bounds, part.number(is_mdmf(&checked)))
+    bounds::part(s, checked.bounds, part.number(checked.named()))
 }
 
 // The same of the share in a container, as a part of the container.
@@ -116,5 +122,5 @@ pub fn container_part(c: &[u8], part: Part) -> &[u8]
         (container_part_at (part_number part (edition_of (data_lent c.now))) c.now) }
 {
     let checked = check_container(c);
-    bounds::part(c, checked.bounds, part.number(is_mdmf(&checked)))
+    bounds::part(c, checked.bounds, part.number(checked.named()))
 }

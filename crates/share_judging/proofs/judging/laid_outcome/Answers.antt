@@ -19,7 +19,7 @@ pub part-requires-3 : goal.part-requires-3
 part-requires-3 c = inside _ _ _ c.number-3.ensures.below c.requires.3
 
 pub content_outcome-requires : goal.content_outcome-requires
-content_outcome-requires c = rw (c.required.ensures, c.segment_size.ensures, c.data_length.ensures) (c.requires.1, c.requires.2)
+content_outcome-requires c = rw c.read.ensures (c.requires.1, c.requires.2)
 
 pub returns : goal.returns
 unfolding laid_rows
@@ -32,9 +32,5 @@ returns c =
       c.number-2.ensures.is,
       c.part.ensures.bytes,
       c.number.ensures.is,
-      c.data_length.ensures,
-      c.segment_size.ensures,
-      c.total.ensures,
-      c.required.ensures,
-      c.sequence.ensures,
+      c.read.ensures,
     )

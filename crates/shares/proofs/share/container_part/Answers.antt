@@ -2,7 +2,7 @@
 use mathlib.Core.Path.{◌≡◌, ap, ◌∙◌}
 use Rattle.container.specs.Data.{data_lent}
 use Rattle.share_format.specs.Header.{edition_of}
-use Rattle.share_format.specs.Numbering.{part_number}
+use Rattle.share_format.specs.Editions.{part_number}
 use Rattle.shares.specs.Share.{container_part, container_part_at}
 use Rattle.shares.specs.declared.share.Checked.{Checked}
 use Rattle.shares.proofs.ShareLaws.{container_inside, container_edition, named}
@@ -20,7 +20,7 @@ returns c =
     let d = data_lent a.c.now in
     let e = c.check_container-checked.ensures in
     let n = named (edition_of d) _ (ap (λ (x : Checked). x.edition) e ∙ container_edition a.c.now) in
-    let i : c.number.result ≡ part_number a.part (edition_of d) = c.number.ensures.is ∙ rw (c.is_mdmf.ensures ∙ n) in
+    let i : c.number.result ≡ part_number a.part (edition_of d) = c.number.ensures.is ∙ rw (c.named.ensures ∙ n) in
     record {
       bytes = c.part.ensures.bytes ∙ rw (e, i);
       place = c.part.ensures.place ∙ rw (e, i);
