@@ -30,7 +30,7 @@ use Rattle.octets.specs.Facts.{Octets}
 use Rattle.rules.specs.Requests.{all_from, by_kind, cut_of, cut_ok, entry_count, entry_size, request_limit, specimens_at}
 use Rattle.rules.specs.Requests.{sum_from, test_count, test_entry_ok, test_size, test_write_end, test_write_of, test_write_ok}
 use Rattle.rules.specs.Requests.{writes_at, Request, entry_limit, entry_specimen, new_data_at, secret_at, tests_at}
-use Rattle.rules.specs.Requests.{write_count, cut_flag, entry_opcode, new_length, padding_at, add_ok, cancel_ok, read_count}
+use Rattle.rules.specs.Requests.{write_count, cut_flag, new_length, add_ok, cancel_ok, read_count}
 use Rattle.rules.specs.Requests.{entry_ok}
 use Rattle.rules.specs.Requests.{read_ok, reads_at, renew_ok, request_of, kind_of}
 use Rattle.requests.specs.Cursors.{byte_at, entry_at, test_at, body_at, record_at, header_at, read_header_at}
@@ -67,10 +67,6 @@ module _ (stride left p : ℕ) (h : left ≤ 0) where
   unfolding all_from
   all_end t = ap (λ (n : ℕ). all_from t stride n p) none_left
 
-  pub sum-end : (f : ℕ → ℕ) → sum_from f stride left p ≡ 0
-  unfolding sum_from
-  sum-end f = ap (λ (n : ℕ). sum_from f stride n p) none_left
-
 -- ---- the last of a table's first entries
 pub all_last : (t : ℕ → Bool) (stride n p : ℕ) → all_from t stride (n + 1) p ≡ (all_from t stride n p && t (p + stride * n))
 unfolding all_from
@@ -104,10 +100,6 @@ pub bodies_most : (q : List ℕ) → Octets q → (n p : ℕ) → sum_from (λ i
 bodies_most q h n p = sum_most (λ i. entry_count i q) entry_size 4294967296 (λ i. count_below i q h) n p
 
 -- ---- passing over a table
-pub test_entry_ok_lem : (q : List ℕ) (p : ℕ) → entry_ok (entry_opcode p q) (get_or q (p + padding_at) 0) ≡ test_entry_ok q p
-unfolding test_entry_ok
-test_entry_ok_lem q p = refl
-
 -- what passing over the first tests of a table from p on has found
 pub record Testing (q : List ℕ) (p done : ℕ) (good : Bool) (sum at : ℕ) : Type 0 where
   pub reaches : at ≡ p + test_size * done
