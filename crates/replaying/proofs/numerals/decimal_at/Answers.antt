@@ -13,18 +13,18 @@ pub returns-then-end-at-clause-answer : goal.returns-then-end-at-clause-answer
 unfolding decimal_at decimal_to
 returns-then-end-at-clause-answer c =
     rw (← c.run_end-end.ensures.end)
-        (sym (decimal_none _ _ _ (simp (length-take, length-drop) (omega arith))))
+    (sym (decimal_none _ _ _ (simp (length-take, length-drop) (omega arith))))
 
 pub returns-in-Some-clause-answer : goal.returns-in-Some-clause-answer
 unfolding decimal_at decimal_to
 returns-in-Some-clause-answer c =
     rw (← c.run_end-end.ensures.end)
-        (sym (decimal_value _ _ _ (some (goal.at.returns-in-Some-clause-answer c).After-value) c.in-Some.value
-        (sym c.value.ensures.answer ∙ c.in-Some.is)))
+    (sym (decimal_value _ _ _ (some (goal.at.returns-in-Some-clause-answer c).After-value) c.in-Some.value
+    (sym c.value.ensures.answer ∙ c.in-Some.is)))
 
 pub returns-in-None-clause-answer : goal.returns-in-None-clause-answer
 unfolding decimal_at decimal_to
 returns-in-None-clause-answer c =
     rw (← c.run_end-end.ensures.end)
-        (sym (decimal_large _ _ _ (some (goal.at.returns-in-None-clause-answer c).After-value)
-        (sym c.value.ensures.answer ∙ c.in-None.is)))
+    (sym (decimal_large _ _ _ (some (goal.at.returns-in-None-clause-answer c).After-value)
+    (sym c.value.ensures.answer ∙ c.in-None.is)))
