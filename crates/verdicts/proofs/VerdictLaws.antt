@@ -13,7 +13,6 @@ use Rattle.std.specs.Prelude.{Result, Ok, Err, Some, None}
 use Rattle.std.proofs.lemmas.Option.{cond_some, none-some}
 use Rattle.octets.proofs.ListLaws.{by_refuting}
 use Rattle.writes.specs.Sizes.{reached_by}
-use Rattle.rules.specs.Refusals.{number_of}
 use Rattle.rules.specs.declared.outcomes.Refusal.{Refusal}
 use Rattle.rules.specs.declared.outcomes.Refusal.TheVariants.{BeforeStart, WrongEnabler, ShortReply, NoRoom}
 use Rattle.verdicts.specs.declared.writing.Due.{Due}
@@ -197,7 +196,7 @@ module _ {c q d : List ℕ} {f : Frame} {t : Parted} (J : Judging c q d f t) whe
         final_small s z =
             let j = cond_some writes_do reached r x in
             let b = reach_bound t.writes.count t.writes.first.at t.bodies.at q f.size (2147483647 + f.size)
-                (omega arith) (omega arith) J.parted.bodies in
+            (omega arith) (omega arith) J.parted.bodies in
             let k = cut_bound (cut_in t.cut) r in
             omega arith
 

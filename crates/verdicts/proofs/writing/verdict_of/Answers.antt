@@ -6,7 +6,7 @@ use Rattle.std.specs.Prelude.{None}
 use Rattle.std.proofs.lemmas.Result.{err_from_is_err_and}
 use Rattle.format.specs.Layout.{data_at}
 use Rattle.format.proofs.WellFormed.{moved-below}
-use Rattle.format.proofs.KnownLaws.{lent, known_room, data_lent_lem, lent_small}
+use Rattle.format.proofs.KnownLaws.{lent, known_room, lent_small}
 use Rattle.rules.specs.declared.outcomes.Refusal.TheVariants.{BeforeStart}
 use Rattle.verdicts.proofs.VerdictLaws.{Judging, judging, unmeasured, unreached, wrong_enabler, short_reply}
 use Rattle.verdicts.proofs.VerdictLaws.{test_false, no_room, accepted, final_small}
