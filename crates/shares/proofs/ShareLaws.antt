@@ -12,7 +12,7 @@ use Rattle.container.specs.Data.{lent_of, data_lent}
 use Rattle.container.proofs.DataLaws.{lends, lent-bytes, none_lent}
 use Rattle.share_format.specs.Bounds.{part_of}
 use Rattle.share_format.specs.Facts.{PartsInside}
-use Rattle.share_format.specs.Header.{Edition, by_edition, version_of, edition_of, numbers_from, offsets_of, bounds_of}
+use Rattle.share_format.specs.Header.{Edition, version_of, edition_of, numbers_from, offsets_of, bounds_of}
 use Rattle.share_judging.specs.Judging.{share_outcome}
 use Rattle.share_judging.proofs.JudgingLaws.{bounds_inside, outcome-ordered}
 use Rattle.shares.specs.Share.{checked_of, checked_container, refused, bounds_at, checked_at}

@@ -1,7 +1,6 @@
 -- What is asked of the space is what the sizes that are left ask of what is left of it.
 use mathlib.Core.Path.{sym, ◌∙◌}
 use Rattle.share_writing.proofs.RoomLaws.{room_start, room_none, room_more, room_short, room_end}
-use native.Mathlib.Omega.{arith}
 use Rattle.share_writing.proofs.has_room.Goals as goal
 
 pub returns-then-space-header : goal.returns-then-space-header

@@ -1,6 +1,5 @@
 -- Each refusal is the row whose test holds once those before it are known not to.
-use mathlib.Core.Path.{◌≡◌, sym, ap, ◌∙◌}
-use mathlib.Core.List.{List}
+use mathlib.Core.Path.{◌≡◌, sym, ◌∙◌}
 use Prim.Native.Nat.{ℕ}
 use native.Mathlib.Omega.{arith}
 use borrow.Author.Tests.{leb-true, leb-false}
@@ -8,9 +7,8 @@ use Rattle.std.specs.Prelude.{Some, None}
 use Rattle.std.proofs.lemmas.Result.{err_from_is_err_and}
 use Rattle.octets.proofs.ListLaws.{both}
 use Rattle.octets.specs.Numbers.{fits}
-use Rattle.share_format.specs.Bounds.{packed}
 use Rattle.share_format.specs.Editions.{is_mdmf}
-use Rattle.share_format.specs.Header.{header_size, number_size}
+use Rattle.share_format.specs.Header.{number_size}
 use Rattle.share_format.proofs.PackedLaws.{packed-fits}
 use Rattle.share_numbers.specs.Coding.{segment_ok}
 use Rattle.share_numbers.proofs.CodingLaws.{coding_facts}

@@ -1,7 +1,7 @@
 -- What the parts from the first on say is what those that are left say.
 use mathlib.Core.Path.{◌≡◌}
-use Prim.Native.Nat.{◌+◌, ◌≤◌}
-use lib.ListN.{length, drop, get_or}
+use Prim.Native.Nat.{◌+◌}
+use lib.ListN.{drop, get_or}
 use Rattle.share_format.specs.Bounds.{in_order}
 use Rattle.share_format.proofs.bounds.in_order.Given as goal
 

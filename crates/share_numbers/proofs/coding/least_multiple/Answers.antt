@@ -1,5 +1,5 @@
 -- The library's own.
-use Rattle.std.specs.Prelude.{◌≡◌, ℕ, ◌+◌, ◌-◌, ◌%◌, ◌<◌, Option, Some, None, SomeIff}
+use Rattle.std.specs.Prelude.{ℕ, ◌+◌, ◌-◌, ◌%◌, ◌<◌, Option, Some, None, SomeIff}
 use Rattle.share_format.proofs.MultipleLaws.{least-next}
 use Rattle.share_numbers.proofs.coding.least_multiple.Goals as goal
 

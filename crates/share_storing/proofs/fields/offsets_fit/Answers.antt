@@ -1,6 +1,5 @@
 -- Of MDMF all are known to fit; of SDMF the first four are compared.
-use borrow.Author.Tests.{le-leb, lt-leb}
-use Rattle.share_storing.proofs.FieldLaws.{fits_all, fits_four}
+use Rattle.share_storing.proofs.FieldLaws.{fits_all}
 use Rattle.share_storing.proofs.fields.offsets_fit.Goals as goal
 
 pub returns-in-Mdmf : goal.returns-in-Mdmf
