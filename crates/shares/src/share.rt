@@ -110,7 +110,8 @@ pub fn part(s: &[u8], part: Part) -> &[u8]
         ≡ beyond s.entry.ref_ptr (part_at (part_number part (edition_of s.now)) s.now) }
 {
     let checked = check(s);
-    bounds::part(s, checked.bounds, part.number(checked.named()))
+    let edition = checked.named();
+    bounds::part(s, checked.bounds, part.number(edition))
 }
 
 // The same of the share in a container, as a part of the container.
@@ -122,5 +123,6 @@ pub fn container_part(c: &[u8], part: Part) -> &[u8]
         (container_part_at (part_number part (edition_of (data_lent c.now))) c.now) }
 {
     let checked = check_container(c);
-    bounds::part(c, checked.bounds, part.number(checked.named()))
+    let edition = checked.named();
+    bounds::part(c, checked.bounds, part.number(edition))
 }

@@ -20,7 +20,7 @@ returns c =
     let d = data_lent a.c.now in
     let e = c.check_container-checked.ensures in
     let n = named (edition_of d) _ (ap (λ (x : Checked). x.edition) e ∙ container_edition a.c.now) in
-    let i : c.number.result ≡ part_number a.part (edition_of d) = c.number.ensures.is ∙ rw (c.named.ensures ∙ n) in
+    let i : c.number.result ≡ part_number a.part (edition_of d) = c.number.ensures.is ∙ rw (c.named-edition.ensures ∙ n) in
     record {
       bytes = c.part.ensures.bytes ∙ rw (e, i);
       place = c.part.ensures.place ∙ rw (e, i);

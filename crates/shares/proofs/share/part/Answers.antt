@@ -18,7 +18,7 @@ returns c =
     let a = c.args in
     let e = c.check-checked.ensures in
     let n = named (edition_of a.s.now) _ (ap (λ (x : Checked). x.edition) e ∙ checked_named a.s.now) in
-    let i : c.number.result ≡ part_number a.part (edition_of a.s.now) = c.number.ensures.is ∙ rw (c.named.ensures ∙ n) in
+    let i : c.number.result ≡ part_number a.part (edition_of a.s.now) = c.number.ensures.is ∙ rw (c.named-edition.ensures ∙ n) in
     record {
       bytes = c.part.ensures.bytes ∙ rw (e, i);
       place = c.part.ensures.place ∙ rw (e, i);
