@@ -32,7 +32,8 @@ pub struct Table {
 }
 
 // A test-and-write taken apart: specimens and new data stand one after the other from their cursors on, and the cut, if
-// there is one, is to a new length. What has a fixed size travels as a cursor alone, here and in `Form`: its reader names the size, and so the compiler knows it.
+// there is one, is to a new length. What has a fixed size travels as a cursor alone, here and in `Form`: its reader names
+// the size, and so the compiler knows it.
 #[derive(Clone, Copy)]
 pub struct Parted {
     pub enabler: Cursor,
