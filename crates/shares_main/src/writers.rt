@@ -1,18 +1,12 @@
 // Shares written from numbers and parts. A line is a case: its name, the number, the share's length. Below it: a share
 // that was written is checked, read back and written again; on a refusal the space is compared with what it was.
 use crate::{Judged, front, put};
-use octets::numbers::u64_at;
+use share_format::header::{Edition, Numbers};
 use share_format::parts::Part;
 use share_rules::Written;
 use shares::share;
 use std::io;
 use std::io::Write;
-
-#[derive(Clone, Copy)]
-enum Edition {
-    Sdmf,
-    Mdmf,
-}
 
 // What a case gives a writer: numbers, parts by their lengths, the chain's last node number, the length of the space.
 // SDMF has no segment size and no spare bytes, MDMF no IV.
@@ -199,13 +193,14 @@ fn sdmf_again(s: &[u8], d: &mut [u8]) -> Written {
     let Some(header) = s.first_chunk::<107>() else {
         return TOO_SHORT;
     };
+    let numbers = Numbers::read(header, Edition::Sdmf);
     share_writing::write_sdmf(
-        u64_at(header, 1),
+        numbers.sequence,
         &header[9..41],
         &header[41..57],
-        header[57],
-        header[58],
-        u64_at(header, 67),
+        numbers.required,
+        numbers.total,
+        numbers.data_length,
         share::part(s, Part::Key),
         share::part(s, Part::Signature),
         share::part(s, Part::Chain),
@@ -220,13 +215,14 @@ fn mdmf_again(s: &[u8], d: &mut [u8]) -> Written {
     let Some(header) = s.first_chunk::<123>() else {
         return TOO_SHORT;
     };
+    let numbers = Numbers::read(header, Edition::Mdmf);
     share_writing::write_mdmf(
-        u64_at(header, 1),
+        numbers.sequence,
         &header[9..41],
-        header[41],
-        header[42],
-        u64_at(header, 43),
-        u64_at(header, 51),
+        numbers.required,
+        numbers.total,
+        numbers.segment_size,
+        numbers.data_length,
         share::part(s, Part::PrivateKey),
         share::part(s, Part::Chain),
         share::part(s, Part::Signature),
