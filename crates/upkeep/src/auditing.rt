@@ -2,16 +2,15 @@
 ghost use Rattle.std.specs.Prelude.{◌≡◌, true, ◌∷◌, ◌+◌, ◌≤◌, ◌<◌, length, take, drop};
 ghost use Rattle.format.specs.Container.{well_formed};
 ghost use Rattle.format.specs.Judging.{Known};
-ghost use Rattle.format.specs.Layout.{leases_of, node_size, record_size, secret_size};
+ghost use Rattle.format.specs.Layout.{leases_of, record_size};
 ghost use Rattle.rules.specs.Leasing.{present};
 ghost use Rattle.rules.specs.Refusals.{answer_from};
 ghost use Rattle.upkeep_rules.specs.Auditing.{row_of, rows_of, audit_answer};
 
-use format::layout::{
-    CANCEL_AT, EXPIRY_AT, Frame, LEASE_NODE_AT, NODE_SIZE, OFFSET_AT, RENEWAL_AT, SECRET_SIZE,
-    SIZE_AT,
-};
+use format::layout::{CANCEL_AT, EXPIRY_AT, Frame, LEASE_NODE_AT, OFFSET_AT, RENEWAL_AT, SIZE_AT};
 use leases::places::{Places, is_held};
+use octets::moves::array_at;
+use octets::numbers::{u32_at, u64_at};
 use rules::Answer;
 use rules::outcomes::Refusal;
 use upkeep_rules::LeaseRow;
@@ -23,23 +22,14 @@ pub struct Leased {
     pub next: usize,
 }
 
-// The N bytes from `at` on.
-fn array_at<const N: usize>(c: &[u8], at: usize) -> [u8; N]
-    requires { at + N ≤ length c.now }
-    ensures { result ≡ take N (drop at c.now) }
-{
-    let e = at + N;
-    *c[at..e].as_array().unwrap()
-}
-
 // The row of the record that begins at p.
 fn row_at(c: &[u8], p: usize) -> LeaseRow
     requires { p + record_size ≤ length c.now }
     ensures { result ≡ row_of (take record_size (drop p c.now)) }
 {
     LeaseRow {
-        owner: octets::numbers::u32_at(c, p),
-        expiry: octets::numbers::u32_at(c, p + EXPIRY_AT),
+        owner: u32_at(c, p),
+        expiry: u32_at(c, p + EXPIRY_AT),
         renewal: array_at(c, p + RENEWAL_AT),
         cancel: array_at(c, p + CANCEL_AT),
         node: array_at(c, p + LEASE_NODE_AT),
@@ -51,11 +41,11 @@ fn frame_of(c: &[u8]) -> Frame
     requires { well_formed c.now ≡ true }
     ensures { Known c.now result }
 {
-    let offset = octets::numbers::u64_at(c, OFFSET_AT) as usize;
+    let offset = u64_at(c, OFFSET_AT) as usize;
     Frame {
-        size: octets::numbers::u64_at(c, SIZE_AT) as usize,
+        size: u64_at(c, SIZE_AT) as usize,
         offset,
-        extras: octets::numbers::u32_at(c, offset) as usize,
+        extras: u32_at(c, offset) as usize,
     }
 }
 
