@@ -9,7 +9,7 @@ use std::io;
 use std::io::Write;
 
 // What a case gives a writer: numbers, parts by their lengths, the chain's last node number, the length of the space.
-// SDMF has no segment size and no spare bytes, MDMF no IV.
+// SDMF has no segment size and no spare bytes, MDMF no IV. Lengths, so that a row says `blocks: 5` and repeats no byte.
 #[derive(Clone, Copy)]
 struct Given {
     edition: Edition,
@@ -183,6 +183,7 @@ fn write(given: &Given, d: &mut [u8]) -> Written {
     }
 }
 
+// As the writers answer: their record is the C interface's.
 const TOO_SHORT: Written = Written {
     number: 21,
     length: 0,
@@ -211,6 +212,7 @@ fn sdmf_again(s: &[u8], d: &mut [u8]) -> Written {
     )
 }
 
+// MDMF's writer takes other numbers and its parts in another order, so the two stay apart.
 fn mdmf_again(s: &[u8], d: &mut [u8]) -> Written {
     let Some(header) = s.first_chunk::<123>() else {
         return TOO_SHORT;
