@@ -192,13 +192,12 @@ module _ {c q d : List ℕ} {f : Frame} {t : Parted} (J : Judging c q d f t) whe
             let j = cond_some writes_do reached r x in
             judged_is m s n i.1 (ap (cut_size (cut_in t.cut)) j.1 ∙ sym z) ∙ rw (i.0, j.0)
 
-        pub final_small : (s : ℕ) → s ≡ cut_size (cut_in t.cut) r → s ≤ 2147483647 + f.size + length q
+        pub final_small : (s : ℕ) → s ≡ cut_size (cut_in t.cut) r → (s ≤ r) × (r ≤ 2147483647 + f.size + length q)
         final_small s z =
             let j = cond_some writes_do reached r x in
             let b = reach_bound t.writes.count t.writes.first.at t.bodies.at q f.size (2147483647 + f.size)
             (omega arith) (omega arith) J.parted.bodies in
-            let k = cut_bound (cut_in t.cut) r in
-            omega arith
+            (omega (arith, cut_bound (cut_in t.cut) r), omega arith)
 
         pub wrong_enabler : enables ≡ false → Told (Err WrongEnabler)
         unfolding first_row

@@ -90,10 +90,8 @@ used-requires c =
     let x = sym c.reach.ensures ∙ c.in_ok-reached.ensures.ok_part in
     let b = final_small J c.args.space w x _ c.cut_size-size.ensures in
     let k = known_room c.requires.0 in
-    let a = c.args in
-    let n = c.cut_size-size.result in
     rw c.resized-after.ensures (
-      moved-below a.frame.offset n (data_at + 4294967296) (omega arith) (omega (arith, c.requires.1.short)),
+      moved-below _ _ (data_at + 4294967296) (omega arith) (omega (arith, c.requires.1.short)),
       omega arith,
     )
 
