@@ -3,7 +3,7 @@ use mathlib.Core.Path.{◌∙◌}
 use native.Mathlib.Omega.{arith}
 use Rattle.std.proofs.Common.{rules}
 use Rattle.octets.specs.Facts.{Octets}
-use Rattle.leases.proofs.PlaceLaws.{known_bounds, Inside, inside}
+use Rattle.leases.proofs.PlaceLaws.{known_bounds, inside}
 use Rattle.leases.proofs.ChangeLaws.{put_expiry, keep_expiry}
 use Rattle.leases.proofs.changes.extend.Goals as goal
 
@@ -12,31 +12,19 @@ place_at-p-requires c = let z = known_bounds _ _ c.requires.0 in (omega arith, o
 
 pub overflow_add-p : goal.overflow_add-p
 overflow_add-p c =
-    let placed : let a = c.args in
-    Inside a.c.now a.frame c.place_at-p.result =
-    inside _ _ c.requires.0 c.args.i c.requires.1 _ c.place_at-p.ensures in
-    let h = placed in omega arith
+    let h = inside _ _ c.requires.0 c.args.i c.requires.1 _ c.place_at-p.ensures in omega arith
 
 pub u32_at-old-requires : goal.u32_at-old-requires
 u32_at-old-requires c =
-    let placed : let a = c.args in
-    Inside a.c.now a.frame c.place_at-p.result =
-    inside _ _ c.requires.0 c.args.i c.requires.1 _ c.place_at-p.ensures in
-    let h = placed in omega arith
+    let h = inside _ _ c.requires.0 c.args.i c.requires.1 _ c.place_at-p.ensures in omega arith
 
 pub overflow_add-p-then-old-expiry : goal.overflow_add-p-then-old-expiry
 overflow_add-p-then-old-expiry c =
-    let placed : let a = c.args in
-    Inside a.c.now a.frame c.place_at-p.result =
-    inside _ _ c.requires.0 c.args.i c.requires.1 _ c.place_at-p.ensures in
-    let h = placed in omega arith
+    let h = inside _ _ c.requires.0 c.args.i c.requires.1 _ c.place_at-p.ensures in omega arith
 
 pub put_u32-requires : goal.put_u32-requires
 put_u32-requires c =
-    let placed : let a = c.args in
-    Inside a.c.now a.frame c.place_at-p.result =
-    inside _ _ c.requires.0 c.args.i c.requires.1 _ c.place_at-p.ensures in
-    let h = placed in omega arith
+    let h = inside _ _ c.requires.0 c.args.i c.requires.1 _ c.place_at-p.ensures in omega arith
 
 pub returns-then-old-expiry : goal.returns-then-old-expiry
 returns-then-old-expiry c =
