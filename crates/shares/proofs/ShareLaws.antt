@@ -8,7 +8,7 @@ use native.Mathlib.Omega.{arith}
 use lib.Dec.{eqb, leb}
 use lib.ListN.{length, take, drop, get_or, get_or-replicate}
 use borrow.Author.Tests.{eqb-true, eqb-false, eq-eqb, ne_eqb, leb-true, leb-false}
-use Rattle.container.specs.Data.{lent_of, data_lent}
+use Rattle.container.specs.Data.{Lent, lent_of, data_lent}
 use Rattle.container.proofs.DataLaws.{lends, lent-bytes, none_lent}
 use Rattle.share_format.specs.Bounds.{part_of}
 use Rattle.share_format.specs.Facts.{PartsInside}
@@ -16,7 +16,6 @@ use Rattle.share_format.specs.Header.{Edition, version_of, edition_of, numbers_f
 use Rattle.share_judging.specs.Judging.{share_outcome}
 use Rattle.share_judging.proofs.JudgingLaws.{bounds_inside, outcome-ordered}
 use Rattle.shares.specs.Share.{checked_of, checked_container, refused, bounds_at, checked_at}
-use Rattle.container.specs.declared.data.Lent.{Lent}
 use Rattle.shares.specs.declared.share.Checked.{Checked}
 
 -- ---- the answer

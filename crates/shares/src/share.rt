@@ -8,6 +8,7 @@ ghost use Rattle.shares.specs.Share.{refused, bounds_at, checked_at, checked_of,
 ghost use Rattle.shares.specs.Share.{checked_container, container_part, container_part_at};
 ghost use Rattle.octets.specs.Facts.{Fits64};
 
+use rules::outcomes::Refusal;
 use share_format::header::Edition;
 use share_format::parts::Part;
 use share_format::{bounds, header};
@@ -93,13 +94,13 @@ pub fn check(s: &[u8]) -> Checked
 pub fn check_container(c: &[u8]) -> Checked
     ensures { result ≡ checked_container c.now }
 {
-    let lent = container::data::find_data(c);
-    if lent.number != 0 {
-        return refused(Edition::Sdmf, lent.number);
+    match container::data::find_data(c) {
+        Ok(lent) => {
+            let base = lent.start as u64;
+            checked_at(&c[lent], base)
+        }
+        Err(flaw) => refused(Edition::Sdmf, Refusal::from(flaw).number()),
     }
-    let a = lent.from;
-    let e = lent.to;
-    checked_at(&c[a..e], a as u64)
 }
 
 // A part of a share, that very part of the slice; on a refusal each is empty, at the slice's start. SDMF has no spare
