@@ -12,14 +12,14 @@ const MOST_RUNS: usize = 16;
 
 // How many rows a list has.
 fn row_count(list: &[u8; LIST_LENGTH]) -> usize
-    ensures { result ≤ 256 }
+    ensures { result ≤ ROW_LIMIT }
 {
     (octets::numbers::u32_at(list, 0) as usize).min(ROW_LIMIT)
 }
 
 // Row i of those that a list has room for.
 fn row(list: &[u8; LIST_LENGTH], i: usize) -> Span
-    requires { i < 256 }
+    requires { i < ROW_LIMIT }
 {
     row_at(&list[ROWS_AT..], i)
 }

@@ -9,6 +9,7 @@ mod reporting;
 mod running;
 mod showing;
 
+ghost use Rattle.std.specs.Prelude.{◌≤◌};
 ghost use Rattle.std.specs.Counts.{IsPrefixLen};
 
 use reporting::{FileFault, Stop};
@@ -99,13 +100,16 @@ fn run_argument<S: Env + Files, W: Write, E: Write>(
     }
 }
 
-// The count of requests wraps at 2^64, which no run reaches.
+// All arguments but the first of n, which is the program's name. The count of requests wraps at 2^64, which no run
+// reaches.
 fn run_arguments<S: Env + Files, W: Write, E: Write>(
     rt: &S,
     out: &mut W,
     err: &mut E,
     n: usize,
-) -> io::Result<()> {
+) -> io::Result<()>
+    requires { 1 ≤ n }
+{
     let mut requests = 0u64;
     for i in 1..n {
         let Some(more) = run_argument(rt, out, err, i)? else {
@@ -113,7 +117,7 @@ fn run_arguments<S: Env + Files, W: Write, E: Write>(
         };
         requests = requests.wrapping_add(more);
     }
-    reporting::as_expected(out, n.saturating_sub(1) as u64, requests)
+    reporting::as_expected(out, (n - 1) as u64, requests)
 }
 
 // How many arguments there are, with the program's name; a buffer of no byte tells whether there is one.

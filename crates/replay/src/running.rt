@@ -79,12 +79,12 @@ impl<const N: usize> Buffer<N> {
         &mut bytes[..len]
     }
 
-    // Puts the bytes that a line names behind the first `at` ones.
-    fn put(&mut self, line: &[u8], at: usize, from: usize) -> Result<(), Fault>
+    // Keeps the bytes at the front, and puts those that a line names behind them.
+    fn put(&mut self, line: &[u8], at: usize, kept: usize) -> Result<(), Fault>
         requires at_in_line { at ≤ length line.now }
-        requires from_in_room { from ≤ N }
+        requires kept_in_room { kept ≤ N }
     {
-        self.len = items::put_items(line, at, &mut self.bytes, from)?;
+        self.len = items::put_items(line, at, &mut self.bytes, kept)?;
         Ok(())
     }
 }
@@ -100,7 +100,7 @@ struct Slot {
 impl Slot {
     // A container of zeros, and beside it the list of no rows.
     fn zeros(len: usize) -> Slot
-        requires { len ≤ 65540 }
+        requires { len ≤ BUFFER_SIZE }
     {
         Slot {
             container: Buffer::zeros(len),
@@ -252,10 +252,7 @@ impl Replay {
         requires { at ≤ length line.now }
     {
         let expected = commands::only_number(line, at, LAST_OUTCOME)?;
-        let last = match &self.slot {
-            Some(slot) => slot.last,
-            None => None,
-        };
+        let last = self.slot.as_ref().and_then(|slot| slot.last);
         let came = last.ok_or(Why::NoAnswer)?;
         if came != expected {
             return Err(Halt::Line(Why::Answer(expected, came)));
@@ -280,8 +277,8 @@ impl Replay {
             Word::Enabler => Ok(self.enabler.put(line, at, 0)?),
             Word::Create => self.create(out, line, at),
             Word::Bytes => {
-                let begun = self.request.len;
-                Ok(self.request.put(line, at, begun)?)
+                let kept = self.request.len;
+                Ok(self.request.put(line, at, kept)?)
             }
             Word::Apply => self.apply(out, line, at, false),
             Word::Watch => self.apply(out, line, at, true),
@@ -300,7 +297,8 @@ impl Replay {
 }
 
 // Runs all lines to the end of the file, or stops with a message; how many requests there were, if it did not stop. The
-// last line needs no line feed, and behind it a request must not be left over.
+// last line needs no line feed, and behind it a request must not be left over. Lines are far fewer than 2^64, where
+// their count wraps.
 pub(crate) fn run_text<W: Write, E: Write>(
     out: &mut W,
     err: &mut E,

@@ -1,11 +1,10 @@
 -- Laws about items and the bytes of a line.
-use Rattle.std.proofs.Common.{◌≡◌, refl, sym, ap, ◌∙◌, true, false, List, [], ◌++◌, ℕ, zero, suc, ◌+◌, ◌-◌, ◌≤◌, ◌<◌}
-use Rattle.std.proofs.Common.{◌⊎◌, inl, inr, Option, Some, None, Result, Ok, Err, length, take, drop, arith}
+use Rattle.std.proofs.Common.{◌≡◌, sym, ap, ◌∙◌, true, false, List, [], ◌++◌, ℕ, zero, suc, ◌+◌, ◌-◌, ◌≤◌, ◌<◌}
+use Rattle.std.proofs.Common.{◌⊎◌, inl, inr, Some, None, Ok, Err, length, arith}
 use mathlib.Core.List.{append-nil}
 use native.Mathlib.Nat.{add-zero, zero-add}
 use lib.ListN.{drop_of_length-le, take-append-drop, length-append, length-take, length-drop, length-replicate}
 use borrow.Author.Tests.{lt-ltb, le-ltb}
-use Rattle.octets.specs.Numbers.{digits}
 use Rattle.octets.specs.Moves.{put}
 use Rattle.octets.proofs.MoveLaws.{put-put, put-length}
 use Rattle.octets.proofs.NumberLaws.{length_digits}

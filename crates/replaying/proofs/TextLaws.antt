@@ -1,12 +1,12 @@
 -- Laws about runs and numerals.
-use Rattle.std.proofs.Common.{◌≡◌, refl, sym, ◌∙◌, Bool, true, false, cond, List, [], ◌∷◌, ℕ, ◌+◌, ◌*◌, ◌-◌, ◌≤◌, ◌<◌}
-use Rattle.std.proofs.Common.{Option, Some, None, Result, Ok, Err, ltb, length, drop, get_or, arith, add-one, drop-cons, length-drop}
+use Rattle.std.proofs.Common.{◌≡◌, refl, Bool, true, false, List, [], ◌∷◌, ℕ, ◌+◌, ◌*◌, ◌-◌, ◌≤◌, ◌<◌}
+use Rattle.std.proofs.Common.{Option, Some, None, Ok, Err, ltb, length, drop, get_or, arith, add-one, drop-cons, length-drop}
 use lib.ListN.{drop_of_length-le}
-use borrow.Author.Tests.{lt-ltb, le-ltb, ltb-true, ltb-false, eq-eqb, ne_eqb}
+use borrow.Author.Tests.{lt-ltb, le-ltb, eq-eqb, ne_eqb}
 use Rattle.std.proofs.lemmas.Bool.Decides.{nat_tests}
 use Rattle.std.specs.Char.{digit_value}
-use Rattle.std.specs.Option.{SomeIff, IfSome}
-use Rattle.std.specs.List.{take_while, prefix_len}
+use Rattle.std.specs.Option.{SomeIff}
+use Rattle.std.specs.List.{take_while}
 use Rattle.std.proofs.lemmas.List.Sums.{prefix_len-le-length}
 use Rattle.std.proofs.lemmas.List.Folds.{length-prefix_len}
 use Rattle.replaying.specs.Scanning.{is_of, run}

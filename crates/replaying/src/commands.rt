@@ -1,5 +1,5 @@
 // The words that lines begin with.
-ghost use Rattle.std.specs.Prelude.{◌≡◌, ◌≤◌, ◌<◌, length, bytes_eq, IfOk, IfSome};
+ghost use Rattle.std.specs.Prelude.{◌≡◌, ◌≤◌, ◌<◌, length, IfOk, IfSome};
 ghost use Rattle.replaying.specs.Commands.{word_of, command_here, command_of, ends_at, argument_at, Followed};
 
 use crate::items::Fault;
@@ -28,41 +28,23 @@ pub struct Command {
     pub next: usize,
 }
 
-// Both sides of `==` have one type, so a byte string is read as a slice here.
-fn is(w: &[u8], name: &[u8]) -> bool
-    ensures { result ≡ bytes_eq w.now name.now }
-{
-    w == name
-}
-
 #[tactic(auto, unfolding(crate::specs::Commands::word_of))]
 fn word_of(w: &[u8]) -> Option<Word>
     ensures { result ≡ word_of w.now }
 {
-    if is(w, b"buffer") {
-        Some(Word::Buffer)
-    } else if is(w, b"load") {
-        Some(Word::Load)
-    } else if is(w, b"list") {
-        Some(Word::List)
-    } else if is(w, b"node") {
-        Some(Word::Node)
-    } else if is(w, b"enabler") {
-        Some(Word::Enabler)
-    } else if is(w, b"create") {
-        Some(Word::Create)
-    } else if is(w, b"bytes") {
-        Some(Word::Bytes)
-    } else if is(w, b"apply") {
-        Some(Word::Apply)
-    } else if is(w, b"watch") {
-        Some(Word::Watch)
-    } else if is(w, b"expect") {
-        Some(Word::Expect)
-    } else if is(w, b"say") {
-        Some(Word::Say)
-    } else {
-        None
+    match str::from_utf8(w).ok()? {
+        "buffer" => Some(Word::Buffer),
+        "load" => Some(Word::Load),
+        "list" => Some(Word::List),
+        "node" => Some(Word::Node),
+        "enabler" => Some(Word::Enabler),
+        "create" => Some(Word::Create),
+        "bytes" => Some(Word::Bytes),
+        "apply" => Some(Word::Apply),
+        "watch" => Some(Word::Watch),
+        "expect" => Some(Word::Expect),
+        "say" => Some(Word::Say),
+        _ => None,
     }
 }
 

@@ -230,6 +230,7 @@ pub fn put_items(s: &[u8], at: usize, d: &mut [u8], k: usize) -> Result<usize, F
 {
     let mut place = at;
     let mut end = k;
+    // A turn for each item; how many there are shows at the line's end.
     while let Some((next, taken)) = put_item(s, place, d, end)? {
         place = next;
         end = taken;

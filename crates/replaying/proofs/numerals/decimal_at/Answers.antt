@@ -1,5 +1,5 @@
 -- The digits are those of the run.
-use Rattle.std.proofs.Common.{◌≡◌, sym, ◌∙◌, ◌-◌, ◌<◌, length, take, drop, length-take, length-drop, arith}
+use Rattle.std.proofs.Common.{sym, ◌∙◌, ◌-◌, ◌<◌, length, take, drop, length-take, length-drop, arith}
 use Rattle.replaying.specs.Numerals.{decimal_at, decimal_to}
 use Rattle.replaying.proofs.TextLaws.{decimal_none, decimal_large, decimal_value}
 use Rattle.replaying.proofs.numerals.decimal_at.Goals as goal

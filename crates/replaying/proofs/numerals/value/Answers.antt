@@ -1,5 +1,5 @@
 -- The value of all digits is that of the digits left, behind those passed over; it only grows.
-use Rattle.std.proofs.Common.{◌≡◌, refl, sym, ◌∙◌, ap, ℕ, ◌+◌, ◌*◌, ◌-◌, arith, drop}
+use Rattle.std.proofs.Common.{◌≡◌, refl, sym, ◌∙◌, ap, ℕ, ◌+◌, ◌*◌, arith, drop}
 use Rattle.replaying.specs.Numerals.{value_of, value_after}
 use Rattle.replaying.proofs.TextLaws.{value_more, value_end, value_grows, within_value, within_none}
 use Rattle.replaying.proofs.numerals.value.Goals as goal

@@ -1,9 +1,6 @@
 -- The bytes that are taken are the run, and no more than there are.
-use Rattle.std.proofs.Common.{◌≡◌, ◌∙◌, ap, ℕ, ◌+◌, ◌≤◌, length, drop, arith, length-drop}
-use Rattle.std.specs.List.{take_while}
+use Rattle.std.proofs.Common.{◌∙◌, ap, ℕ, ◌+◌, drop, arith}
 use Rattle.std.proofs.lemmas.List.{take_rest}
-use Rattle.std.proofs.lemmas.List.Sums.{prefix_len-le-length}
-use Rattle.replaying.specs.Scanning.{is_of, run}
 use Rattle.replaying.proofs.TextLaws.{length-taken, run_within}
 use Rattle.replaying.proofs.scanning.run_end.Goals as goal
 
