@@ -1,13 +1,12 @@
 -- Laws about runs and numerals.
 use Rattle.std.proofs.Common.{◌≡◌, refl, Bool, true, false, List, [], ◌∷◌, ℕ, ◌+◌, ◌*◌, ◌-◌, ◌≤◌, ◌<◌}
-use Rattle.std.proofs.Common.{Option, Some, None, Ok, Err, ltb, length, drop, get_or, arith, add-one, drop-cons, length-drop}
+use Rattle.std.proofs.Common.{Option, Some, None, Ok, Err, ltb, length, drop, get_or, arith, add-one, drop-cons}
 use lib.ListN.{drop_of_length-le}
 use borrow.Author.Tests.{lt-ltb, le-ltb, eq-eqb, ne_eqb}
 use Rattle.std.proofs.lemmas.Bool.Decides.{nat_tests}
 use Rattle.std.specs.Char.{digit_value}
 use Rattle.std.specs.Option.{SomeIff}
 use Rattle.std.specs.List.{take_while}
-use Rattle.std.proofs.lemmas.List.Sums.{prefix_len-le-length}
 use Rattle.std.proofs.lemmas.List.Folds.{length-prefix_len}
 use Rattle.replaying.specs.Scanning.{is_of, run}
 use Rattle.replaying.specs.Numerals.{value_after, value_of, value_within, decimal_of, hex_of}
@@ -18,10 +17,6 @@ use Rattle.replaying.specs.declared.numerals.NumberFault.TheVariants.{Missing, T
 pub length-taken : (k : Sort) (s : List ℕ) → length (take_while (is_of k) s) ≡ run k s
 unfolding run
 length-taken k s = length-prefix_len (is_of k) s
-
-pub run_within : (k : Sort) (s : List ℕ) (at : ℕ) → at ≤ length s → at + run k (drop at s) ≤ length s
-unfolding run
-run_within k s at h = omega (arith, prefix_len-le-length (is_of k) (drop at s), length-drop at s)
 
 -- A decimal value, digit by digit.
 module _ (d : List ℕ) (i acc : ℕ) where

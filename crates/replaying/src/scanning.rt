@@ -26,7 +26,8 @@ impl Sort {
 
 // How many bytes of the sort stand at the front.
 fn run(s: &[u8], sort: Sort) -> usize
-    ensures { result ≡ length (take_while (is_of sort) s.now) }
+    ensures value { result ≡ length (take_while (is_of sort) s.now) }
+    ensures bound { result ≤ length s.now }
 {
     s.iter().take_while(|&&byte| sort.has(byte)).count()
 }
