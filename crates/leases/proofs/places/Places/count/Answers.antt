@@ -4,6 +4,11 @@ use Rattle.format.specs.Layout.{fixed_places, leases_at}
 use Rattle.leases.proofs.PlaceLaws.{known_bounds, present_few, present_leases}
 use Rattle.leases.proofs.places.Places.count.Goals as goal
 
+pub returns : goal.returns
+returns c =
+    rw (c.count_held.ensures, c.count_held-2.ensures, c.extras_at.ensures)
+    (present_leases c.args.self.now.c.now _ c.args.self.now.known)
+
 pub count_held-requires : goal.count_held-requires
 count_held-requires c = let z = known_bounds _ _ c.args.self.now.known in (omega arith, omega arith)
 
@@ -26,8 +31,3 @@ overflow_add-result c =
       present_few fixed_places leases_at a.self.now.c.now,
       present_few a.self.now.frame.extras c.extras_at.result a.self.now.c.now,
     )
-
-pub returns : goal.returns
-returns c =
-    rw (c.count_held.ensures, c.count_held-2.ensures, c.extras_at.ensures)
-    (present_leases c.args.self.now.c.now _ c.args.self.now.known)
