@@ -54,6 +54,7 @@ pub const LEAST: usize = DATA_AT + COUNT_SIZE;
 pub const LIMIT: usize = 16777216;
 
 // What judging a container finds: the data size, the offset of the extra-lease count, and the number of extra leases.
+// No invariant bounds them: `frame_of` (specs/Judging) is a frame of any bytes.
 #[derive(Clone, Copy, Debug, PartialEq, Eq)]
 pub struct Frame {
     pub size: usize,
