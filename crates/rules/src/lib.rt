@@ -9,7 +9,6 @@ ghost use Rattle.rules.specs.Refusals.{number_of, answer_from};
 use format::layout::{ENABLER_AT, NODE_AT, NODE_SIZE};
 use outcomes::Refusal;
 
-pub mod answers;
 pub mod outcomes;
 
 // The answer record: the outcome's number, a node id (the container's on 5, else zeros) and a count. C reads it by its
