@@ -15,7 +15,7 @@ use Rattle.stretches.proofs.ShapeLaws.{none_below}
 use Rattle.lists.specs.declared.rows.Span.{Span}
 use Rattle.lists.specs.declared.rows.Rows.{Rows}
 use Rattle.lists.specs.Spans.{span_at, chosen}
-use Rattle.lists.specs.Tables.{table_rows, rows_of, Pushed, Ready, Ordered}
+use Rattle.lists.specs.Tables.{rows_of, Pushed, Ready, Ordered}
 use Rattle.lists.proofs.TableLaws.{row_at, rows_next, between_none, none_left}
 
 -- ---- what the rows name outside of a up to e, row by row
@@ -103,7 +103,7 @@ taking_start t a e o g =
 
 -- A turn: row i is read, l is where its part below a ends, v is what is pushed.
 module _ (bs : List ℕ) (n a e : ℕ) (t : Rows) (i : ℕ) (held row : Span) (w : Taking bs n a e t i held)
-    (few : n < table_rows) (g : a ≤ e) (more : i < n) (is : row ≡ span_at (8 * i) t.bytes) (l : ℕ)
+    (g : a ≤ e) (more : i < n) (is : row ≡ span_at (8 * i) t.bytes) (l : ℕ)
     (el : l ≡ min a row.to) (v : Span) (ev : v ≡ chosen (record { from = row.from; to = l }) held) where
   r : Stretch
   r = row_at i t.bytes

@@ -1,5 +1,5 @@
 -- Rows in memory while a request is judged.
-use Rattle.std.specs.Prelude.{ℕ, ◌+◌, ◌*◌, ◌≤◌, ◌<◌, ◌≡◌, List, ◌++◌}
+use Rattle.std.specs.Prelude.{ℕ, ◌+◌, ◌*◌, ◌≤◌, ◌<◌, ◌≡◌, List, ◌++◌, length}
 use Rattle.octets.specs.Facts.{Fits32}
 use Rattle.stretches.specs.Stretches.{Stretch, between}
 use Rattle.stretches.specs.List.{row_size, rows_from}
@@ -23,7 +23,7 @@ pub record Pushed (t : Rows) (s : Span) (u : Rows) : Type 0 where
 
 -- Rows in order and inside data of a size, with room for one more; of some size.
 pub record Ready (t : Rows) (size : ℕ) : Type 0 where
-  pub room : t.count < table_rows
+  pub room : length (rows_of t) < table_rows
   pub fits : Fits32 size
   pub rises : Rising 0 (rows_of t) size
 

@@ -100,6 +100,7 @@ impl Rows {
 
     // The positions from a up to e are taken out, in one pass. A row is split in two at most once, so that each turn puts
     // one row at most, where one has been read: what is left of the row above e is held back for the next turn.
+    #[tactic(auto, using(crate::proofs::StoreLaws::counted))]
     fn take_out(&mut self, a: usize, e: usize)
         requires { Ordered self.old × (a ≤ e) }
         ensures { rows_of self.new ≡ below a (rows_of self.old) ++ above e (rows_of self.old) }
@@ -123,6 +124,7 @@ impl Rows {
     }
 
     // The gap from a size up to a position behind it is added; a row that ends at the size is made longer.
+    #[tactic(auto, using(crate::proofs::StoreLaws::counted))]
     fn add_gap(&mut self, size: usize, at: usize)
         requires { Ready self.old size × ((size < at) × Fits32 at) }
         ensures { rows_of self.new ≡ joined size at (rows_of self.old) }
