@@ -42,11 +42,11 @@ fn choose(first: Span, other: Span) -> Span
     if first.from < first.to { first } else { other }
 }
 
-// Rows, one behind the other as in a list.
+// Rows, one behind the other at the front of the bytes, as in a list.
 #[derive(Drop)]
 pub struct Rows {
-    bytes: [u8; TABLE_SIZE],
-    count: usize,
+    pub bytes: [u8; TABLE_SIZE],
+    pub count: usize,
 }
 
 impl Rows {
