@@ -6,7 +6,7 @@ ghost use Rattle.format.specs.Layout.{least, node_of};
 ghost use Rattle.rules.specs.Outcomes.{answer_of, no_node};
 ghost use Rattle.rules.specs.Refusals.{number_of, answer_from};
 
-use format::layout::{ENABLER_AT, NODE_AT, NODE_SIZE};
+use format::layout::{NODE_AT, NODE_SIZE};
 use outcomes::Refusal;
 
 pub mod outcomes;
@@ -22,36 +22,36 @@ pub struct Answer {
 }
 
 impl Answer {
+    // A number with a count, and no node id.
+    pub fn numbered(number: u32, count: usize) -> Answer
+        ensures { result ≡ answer_of number no_node count }
+    {
+        Answer {
+            number,
+            node: [0; NODE_SIZE],
+            count: count as u64,
+        }
+    }
+
     // Outcome 0.
     pub fn done(count: usize) -> Answer
         ensures { result ≡ answer_of 0 no_node count }
     {
-        Answer {
-            number: 0,
-            node: [0; NODE_SIZE],
-            count: count as u64,
-        }
+        Answer::numbered(0, count)
     }
 
     // Outcome 8: some test is false, and the reply tells.
     pub fn test_false(reply: usize) -> Answer
         ensures { result ≡ answer_of 8 no_node reply }
     {
-        Answer {
-            number: 8,
-            node: [0; NODE_SIZE],
-            count: reply as u64,
-        }
+        Answer::numbered(8, reply)
     }
 
+    // For outcome 5 there is `wrong_enabler`.
     pub fn refused(refusal: Refusal) -> Answer
         ensures { result ≡ answer_of (number_of refusal) no_node 0 }
     {
-        Answer {
-            number: refusal.number(),
-            node: [0; NODE_SIZE],
-            count: 0,
-        }
+        Answer::numbered(refusal.number(), 0)
     }
 
     // Outcome 5 names the node that accepted the write enabler.
@@ -60,11 +60,9 @@ impl Answer {
         requires { least ≤ length c.now }
         ensures { result ≡ answer_of 5 (node_of c.now) 0 }
     {
-        let mut node = [0; NODE_SIZE];
-        node.copy_from_slice(&c[NODE_AT..ENABLER_AT]);
         Answer {
             number: Refusal::WrongEnabler.number(),
-            node,
+            node: octets::moves::array_at(c, NODE_AT),
             count: 0,
         }
     }
