@@ -5,7 +5,7 @@ use mathlib.Core.List.{List, [], ◌∷◌, ◌++◌, map}
 use mathlib.Core.Option.{Option, none, some}
 use Prim.Native.Nat.{ℕ, zero, suc, ◌+◌, ◌≤◌, ◌<◌}
 use native.Mathlib.Omega.{arith}
-use lib.Dec.{ltb}
+use lib.Dec.{eqb, ltb}
 use lib.ListN.{length, take, drop, length-take}
 use Rattle.format.specs.declared.layout.Frame.{Frame}
 use Rattle.requests.specs.declared.forms.Parted.{Parted}
@@ -18,7 +18,7 @@ use Rattle.rules.specs.declared.outcomes.Refusal.TheVariants.{BeforeStart, Wrong
 use Rattle.verdicts.specs.declared.writing.Due.{Due}
 use Rattle.verdicts.specs.declared.writing.Verdict.{Verdict}
 use Rattle.verdicts.specs.declared.writing.Verdict.TheVariants.{TestFalse, Accepted}
-use Rattle.verdicts.specs.Writing.{Decided, Tells, verdict_of}
+use Rattle.verdicts.specs.Writing.{Decided, Tells, due_of, verdict_of}
 use Rattle.format.specs.Judging.{Known}
 use Rattle.rules.specs.Requests.{Request, Write, writes_from, entry_count, entry_offset, entry_size, sum_from}
 use Rattle.octets.specs.Rows.{first_row, row}
@@ -90,6 +90,15 @@ after-used c q f t s k e =
     (bytes_after c q t ∙ e))
 
 -- ---- the verdict by what the code finds
+-- No row behind the fourth has its number.
+not_four : (a b d e : Bool) → eqb (first_row (row 5 a ∷ row 7 b ∷ row 8 d ∷ row 11 e ∷ [])) 4 ≡ false
+unfolding first_row
+not_four true b d e = refl
+not_four false true d e = refl
+not_four false false true e = refl
+not_four false false false true = refl
+not_four false false false false = refl
+
 -- d is the data as the code takes it.
 pub record Judging (c q d : List ℕ) (f : Frame) (t : Parted) : Type 0 where
   pub known : Known c f
@@ -164,6 +173,12 @@ module _ {c q d : List ℕ} {f : Frame} {t : Parted} (J : Judging c q d f t) whe
     abbrev Told : Result Verdict Refusal → Type 0
     Told v = Tells v (verdict_of (parts_of c) asks n)
 
+    pub undue_tests : measured_of t.tests q d ≡ None → due_of (verdict_of (parts_of c) asks n) ≡ None
+    unfolding first_row
+    undue_tests w =
+        let y : tests_resolve ≡ false = by_refuting tests_resolve (λ h. none-some reply (sym w ∙ rw h)) in
+        rw (judged_is _ _ n refl refl, y) refl
+
     pub unmeasured : measured_of t.tests q d ≡ None → Told (Err BeforeStart)
     unfolding first_row
     unmeasured w =
@@ -178,6 +193,12 @@ module _ {c q d : List ℕ} {f : Frame} {t : Parted} (J : Judging c q d f t) whe
           let y : writes_do ≡ false = by_refuting writes_do (λ h. none-some reached (sym x ∙ rw h)) in
           rw (judged_is _ _ n refl refl, (cond_some tests_resolve reply m w).0, y)
           (record { number = refl; lengths = tt })
+
+      pub undue_writes : reached_by (writes_in t q) f.size ≡ None → due_of (verdict_of (parts_of c) asks n) ≡ None
+      unfolding first_row
+      undue_writes x =
+          let y : writes_do ≡ false = by_refuting writes_do (λ h. none-some reached (sym x ∙ rw h)) in
+          rw (judged_is _ _ n refl refl, (cond_some tests_resolve reply m w).0, y) refl
 
       module _ {r : ℕ} (x : reached_by (writes_in t q) f.size ≡ Some r) where
         found : (s : ℕ) → s ≡ cut_size (cut_in t.cut) r → verdict_of (parts_of c) asks n ≡ record {
@@ -198,6 +219,10 @@ module _ {c q d : List ℕ} {f : Frame} {t : Parted} (J : Judging c q d f t) whe
             let b = reach_bound t.writes.count t.writes.first.at t.bodies.at q f.size (2147483647 + f.size)
             (omega arith) (omega arith) J.parted.bodies in
             (omega (arith, cut_bound (cut_in t.cut) r), omega arith)
+
+        pub due_found : (s : ℕ) → s ≡ cut_size (cut_in t.cut) r
+            → due_of (verdict_of (parts_of c) asks n) ≡ Some (record { reply = m; size = s })
+        due_found s z = rw (found s z, not_four (not enables) (ltb n m) (not (every (holds d) (tests_in t q))) _) refl
 
         pub wrong_enabler : enables ≡ false → Told (Err WrongEnabler)
         unfolding first_row

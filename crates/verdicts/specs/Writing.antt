@@ -1,5 +1,5 @@
 -- What judging a test-and-write finds, and what committing it asks for.
-use Rattle.std.specs.Prelude.{ℕ, ◌≡◌, List, ◌++◌, length, Result, Ok, Err, ⊤}
+use Rattle.std.specs.Prelude.{ℕ, ◌≡◌, cond, eqb, List, ◌++◌, length, Option, Some, None, Result, Ok, Err, ⊤}
 use Rattle.octets.specs.Rows.{first_row}
 use Rattle.format.specs.Parts.{Parts, parts_of}
 use Rattle.format.specs.Judging.{Known}
@@ -27,6 +27,10 @@ verdict_of p w n = record {
   reply = length (reply_to p w);
   size = length (after p w).bytes;
 }
+
+-- What is due by the lengths: none where row 4 applies, since then they mean nothing.
+abbrev pub due_of : Judgement → Option Due
+due_of j = cond (eqb j.number 4) None (Some (record { reply = j.reply; size = j.size }))
 
 -- The outcome's number for each case of a verdict.
 abbrev pub verdict_number : Result Verdict Refusal → ℕ

@@ -8,7 +8,7 @@ ghost use Rattle.format.specs.Judging.{Known};
 ghost use Rattle.rules.specs.Outcomes.{after};
 ghost use Rattle.requests.specs.Cursors.{bytes_from};
 ghost use Rattle.requests.specs.Forms.{BytesIn, PartedIn, write_in};
-ghost use Rattle.verdicts.specs.Writing.{verdict_of, Tells, Decided};
+ghost use Rattle.verdicts.specs.Writing.{verdict_of, due_of, Tells, Decided};
 
 use format::layout::{DATA_AT, ENABLER_AT, Frame, SECRET_SIZE, SIZE_AT};
 use requests::cursors::Cursor;
@@ -36,6 +36,18 @@ fn enables(c: &[u8], q: &[u8], enabler: Cursor) -> bool
 {
     let sent = enabler.body(q, SECRET_SIZE);
     octets::strings::same(sent.bytes(q), &c[ENABLER_AT..SIZE_AT])
+}
+
+// What is due by the lengths alone, whatever else refuses the request; none where an offset reaches before byte 0.
+pub fn lengths(c: &[u8], frame: Frame, q: &[u8], t: Parted) -> Option<Due>
+    requires { Known c.now frame × PartedIn q.now t }
+    ensures { result ≡ due_of (verdict_of (parts_of c.now) (write_in t q.now) 0) }
+{
+    let to = frame.data_end();
+    let reply = replies::pieces::measure(&c[DATA_AT..to], q, t.tests)?;
+    let reached = writes::sizes::reach(q, t, frame.size)?;
+    let size = writes::sizes::cut_size(reached, t.cut);
+    Some(Due { reply, size })
 }
 
 // The verdict. The room is judged on the final size: a size on the way to the cut is a number, never bytes.
