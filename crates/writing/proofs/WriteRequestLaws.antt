@@ -6,7 +6,7 @@ use Prim.Native.Nat.{ℕ, ◌≤◌}
 use lib.Dec.{eqb, ltb}
 use Rattle.octets.specs.Moves.{put}
 use lib.ListN.{length}
-use borrow.Author.Tests.{ltb-false, ne_eqb, eqb-true}
+use borrow.Author.Tests.{ltb-false}
 use Rattle.format.specs.declared.layout.Frame.{Frame}
 use Rattle.rules.specs.declared.Answer.{Answer}
 use Rattle.requests.specs.declared.forms.Parted.{Parted}
@@ -14,7 +14,6 @@ use Rattle.std.specs.Prelude.{Result, Ok, Err}
 use Rattle.rules.specs.Refusals.{number_of}
 use Rattle.rules.proofs.RefusalLaws.{refusal_replies}
 use Rattle.rules.specs.declared.outcomes.Refusal.{Refusal}
-use Rattle.rules.specs.declared.outcomes.Refusal.TheVariants.{WrongEnabler}
 use Rattle.verdicts.specs.declared.writing.Due.{Due}
 use Rattle.verdicts.specs.declared.writing.Verdict.{Verdict}
 use Rattle.verdicts.specs.declared.writing.Verdict.TheVariants.{TestFalse, Accepted}
