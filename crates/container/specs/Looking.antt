@@ -19,7 +19,7 @@ read_bytes (some (renew t x)) q = []
 read_bytes (some (cancel t)) q = []
 read_bytes (some (read rs)) q = q
 
--- The table of the bytes q where they are a read, and that they are none.
+-- The answer to the bytes q: the table of a read, or that they are no read.
 abbrev pub Looks : List ℕ → Maybe Table → Type 0
 Looks q None = read_bytes (request_of q) q ≡ []
 Looks q (Some t) = ReadRequest q t

@@ -1,29 +1,19 @@
 -- The chunks of a stretch of lease records are the records, from the front and from the back. Assumes nothing.
 use mathlib.Core.Path.{◌≡◌, refl, sym, ap, ◌∙◌}
-use mathlib.Core.Bool.{Bool, true, false, cond, not}
 use mathlib.Core.List.{List, [], ◌∷◌, ◌++◌, reverse}
 use Prim.Native.Nat.{ℕ, zero, suc, ◌+◌, ◌-◌, ◌*◌, ◌/◌, ◌%◌, ◌≤◌}
 use native.Mathlib.Nat.{zero-add}
 use native.Mathlib.Omega.{arith}
 use lib.ListN.{length, take, drop, length-append, length-take, length-drop}
-use borrow.Author.Tests.{ltb-false}
-use lib.Dec.{eqb, ltb}
 use denote.Ref.{Bor}
-use denote.Param.Members.{Mut}
-use Rattle.std.specs.Fn.{Called}
-use Rattle.std.specs.Prelude.{Option, Some, None}
 use Rattle.std.specs.declared.slice.ChunksExact.{ChunksExact}
 use Rattle.std.specs.Slice.Iter.{chunks_exact_steps, chunks_exact_rest, chunks_exact_size}
 use Rattle.std.proofs.lemmas.Iterator.{YieldsList}
 use Rattle.std.proofs.lemmas.Iterator.Splits.{YieldsList-from_shown_while}
 use Rattle.std.proofs.lemmas.List.{drop_at, take_at, append_assoc, reverse-append, length-reverse}
-use Rattle.std.specs.List.{filter, position_or_len}
-use Rattle.std.specs.Option.{MatchOption, IsSomeAnd}
-use Rattle.std.specs.Iterator.{FindsPositionBack}
 use Rattle.std.specs.Slice.Exact.{chunks_exact_steps_back}
-use Rattle.std.proofs.lemmas.Iterator.Search.{position_from_yields_List}
 use Rattle.octets.proofs.ListLaws.{part_part}
-use Rattle.format.specs.Layout.{records, record_size, owner_of}
+use Rattle.format.specs.Layout.{records, record_size}
 use Rattle.format.proofs.WellFormed.{records_shift, records-add, length-records}
 
 -- what is left to an iterator over records, as records

@@ -65,6 +65,7 @@ pub fn add_lease(
     }
 }
 
+// The steps on a known token are those of an add; one function for both would take the request for its contract alone.
 pub fn renew_lease(c: &mut [u8], frame: Frame, token: &[u8], expiry: u32) -> Result<usize, Refusal>
     requires { Known c.old frame × (length token.now ≡ secret_size) }
     ensures value { done_of result ≡ lease_done (parts_of c.old) (renew token.now expiry) }

@@ -182,7 +182,8 @@ impl Replay {
         Ok(())
     }
 
-    // Bytes at the front of the buffer, as another hand might have left them.
+    // Bytes at the front of the buffer, as another hand might have left them. `list` does the same in the list, which is
+    // borrowed from the slot in another way.
     fn load(&mut self, line: &[u8], at: usize) -> Result<(), Halt>
         requires { at ≤ length line.now }
     {

@@ -180,9 +180,6 @@ pub record Measuring (t : Table) (q d : List ℕ) (sum at left : ℕ) : Type 0 w
   pub resolved : resolve_from t.stride left at q (length d) ≡ resolve_from t.stride t.count t.first.at q (length d)
   pub summed : sum + length (reply_of (pieces_from t.stride left at q d)) ≡ length (reply_of (pieces_in t q d))
 
-pub measuring_start : (t : Table) (q d : List ℕ) → TableIn q t → Measuring t q d 0 t.first.at t.count
-measuring_start t q d h = record { reaches = h.inside; resolved = refl; summed = omega arith }
-
 module _ {t : Table} {q d : List ℕ} {sum at left : ℕ} (M : Measuring t q d sum at left) where
   measuring_sum : (h : 0 < left)
       → let s = piece d (entry_offset at q) (entry_count at q) in

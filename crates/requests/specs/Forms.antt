@@ -50,7 +50,7 @@ write_in t q = test_write (bytes_from t.enabler secret_size q) (tests_in t q) (w
 abbrev pub read_in : Table → List ℕ → Request
 read_in t q = read (reads_from t.count t.first.at q)
 
--- The request that a form of the bytes q stands for, and that none does.
+-- The request that a form of the bytes q stands for; none where there is no form.
 abbrev pub asked_by : List ℕ → Form → Request
 asked_by q (TestWrite t) = write_in t q
 asked_by q (Add r) = add (bytes_from r.whole record_size q)

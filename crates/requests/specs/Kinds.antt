@@ -12,6 +12,6 @@ kind_byte Renew = 3
 kind_byte Cancel = 4
 kind_byte Read = 5
 
--- The kind that begins with the byte, or that none does.
+-- The answer to a byte: the kind that begins with it, or that there is none.
 abbrev pub Names : ℕ → Result Kind NoKind → Type 0
 Names byte r = MatchResult r (λ k. kind_byte k ≡ byte) (λ e. (byte ≡ 0) ⊎ (5 < byte))
