@@ -1,7 +1,7 @@
 // The share writers: from numbers and parts to a share's bytes in lent space.
 #![tactic(auto)]
 
-ghost use Rattle.std.specs.Prelude.{◌≡◌, true, [], ◌∷◌, ◌++◌, ◌+◌, ◌≤◌, ◌<◌, leb, length, get_or, SomeIff};
+ghost use Rattle.std.specs.Prelude.{◌≡◌, true, ◌++◌, ◌+◌, ◌≤◌, ◌<◌, leb, length, SomeIff};
 ghost use Rattle.octets.specs.Facts.{Each, Fits64};
 ghost use Rattle.octets.specs.Lists.{sum};
 ghost use Rattle.octets.specs.Moves.{put};
@@ -10,13 +10,14 @@ ghost use Rattle.share_format.specs.Bounds.{packed};
 ghost use Rattle.share_format.specs.Editions.{is_mdmf};
 ghost use Rattle.share_format.specs.Header.{header_size, number_fields, offset_fields};
 ghost use Rattle.share_rules.specs.Writing.{sdmf_with, mdmf_with, segment_fits, bounds_fit, written_answer, space_after};
-ghost use Rattle.share_writing.specs.Facts.{segment_for, refusal_number, Packed, HeaderFits, Judges};
+ghost use Rattle.share_writing.specs.Facts.{strings, sizes_of, segment_for, refusal_number, HeaderFits, Judges};
 ghost use Rattle.share_writing.specs.declared.Refusal.TheVariants.{Share};
 
 use octets::moves;
 use share_contents::contents;
 use share_contents::faults::Fault;
 use share_format::header::{Edition, HASH_SIZE, Numbers};
+use share_format::parts::Part;
 use share_numbers::{coding, order};
 use share_rules::Written;
 use share_storing::fields;
@@ -51,14 +52,15 @@ impl From<Fault> for Refusal {
 }
 
 // Row 7. The parts are taken off the space one by one, so that no sum of their sizes is formed.
-fn has_room(space: usize, header: usize, sizes: &[usize]) -> bool
-    ensures { result ≡ leb (header + sum sizes.now) space }
+fn has_room(space: usize, header: usize, parts: &[&[u8]]) -> bool
+    ensures { result ≡ leb (header + sum (sizes_of parts.now)) space }
 {
     if space < header {
         return false;
     }
     let mut left = space - header;
-    for &n in sizes {
+    for part in parts {
+        let n = part.len();
         if left < n {
             return false;
         }
@@ -67,19 +69,16 @@ fn has_room(space: usize, header: usize, sizes: &[usize]) -> bool
     true
 }
 
-// The boundaries of parts of these sizes, packed tightly behind the header.
-fn places(header: u64, sizes: [usize; 7]) -> [u64; 8]
-    requires { (length sizes ≡ 7) × Fits64 (header + sum sizes) }
-    ensures { result ≡ packed header sizes }
+// The boundaries of these parts, packed tightly behind the header.
+fn places(header: u64, parts: &[&[u8]]) -> [u64; 8]
+    requires { (length parts.now ≡ 7) × Fits64 (header + sum (sizes_of parts.now)) }
+    ensures { result ≡ packed header (sizes_of parts.now) }
 {
-    let second = header + sizes[0] as u64;
-    let third = second + sizes[1] as u64;
-    let fourth = third + sizes[2] as u64;
-    let fifth = fourth + sizes[3] as u64;
-    let sixth = fifth + sizes[4] as u64;
-    let seventh = sixth + sizes[5] as u64;
-    let end = seventh + sizes[6] as u64;
-    [header, second, third, fourth, fifth, sixth, seventh, end]
+    let mut bounds = [header; 8];
+    for (i, part) in parts.iter().enumerate() {
+        bounds[i + 1] = bounds[i] + part.len() as u64;
+    }
+    bounds
 }
 
 // Row 24, and the segment size: MDMF's is given, SDMF's follows.
@@ -112,22 +111,18 @@ pub(crate) struct Verdict {
     pub(crate) bounds: [u64; 8],
 }
 
-// What the lowest row that applies says of a share, if any does. The parts are known by their sizes, in the order in
-// which they lie, and the three that the rows look into; the segment size is MDMF's.
+// What the lowest row that applies says of a share, if any does. Its parts are given in the order in which they lie;
+// the segment size is MDMF's.
 fn verdict_of(
     edition: Edition,
     numbers: Numbers,
     root: &[u8],
     iv: &[u8],
-    sizes: [usize; 7],
-    chain: &[u8],
-    tree: &[u8],
-    share_data: &[u8],
+    parts: &[&[u8]],
     space: usize,
 ) -> Result<Verdict, Refusal>
-    requires { length sizes ≡ 7 }
-    ensures { Judges (is_mdmf edition) numbers root.now iv.now sizes chain.now tree.now
-        share_data.now space result }
+    requires { length parts.now ≡ 7 }
+    ensures { Judges (is_mdmf edition) numbers root.now iv.now (strings parts.now) space result }
 {
     if root.len() != HASH_SIZE {
         return Err(Refusal::Fields);
@@ -136,7 +131,7 @@ fn verdict_of(
         return Err(Refusal::Fields);
     }
     let header = edition.header_size();
-    if !has_room(space, header as usize, &sizes) {
+    if !has_room(space, header as usize, parts) {
         return Err(Refusal::Space);
     }
     let k = numbers.required;
@@ -145,7 +140,7 @@ fn verdict_of(
     }
     let found = segment_of(edition, numbers.segment_size, k as u64, numbers.data_length);
     let segment = found.ok_or(Refusal::Share(Fault::SegmentSize))?;
-    let bounds = places(header, sizes);
+    let bounds = places(header, parts);
     if !bounds_fit(edition, bounds) {
         return Err(Refusal::Share(Fault::Offsets));
     }
@@ -153,38 +148,23 @@ fn verdict_of(
         segment_size: segment,
         ..numbers
     };
+    let chain = parts[Part::Chain.number(edition)];
+    let tree = parts[Part::Tree.number(edition)];
+    let share_data = parts[Part::ShareData.number(edition)];
     contents::content_outcome(edition, numbers, chain, tree, share_data)?;
     Ok(Verdict { numbers, bounds })
 }
 
-// Stores each part at its boundary, behind the header.
-fn put_parts(
-    d: &mut [u8],
-    bounds: [u64; 8],
-    first: &[u8],
-    second: &[u8],
-    third: &[u8],
-    fourth: &[u8],
-    fifth: &[u8],
-    sixth: &[u8],
-    seventh: &[u8],
-)
-    requires { Packed (get_or bounds 0 0) bounds (length first.now) (length second.now) (length third.now)
-        (length fourth.now) (length fifth.now) (length sixth.now) (length seventh.now)
-        × (get_or bounds 7 0 ≤ length d.old) }
-    ensures { d.new
-        ≡ put (get_or bounds 0 0) (join
-        (first.now ∷ second.now ∷ third.now ∷ fourth.now
-        ∷ fifth.now ∷ sixth.now ∷ seventh.now ∷ []))
-        d.old }
+// Stores the parts one behind the other, from `from` on.
+fn put_parts(d: &mut [u8], from: usize, parts: &[&[u8]])
+    requires { from + length (join (strings parts.now)) ≤ length d.old }
+    ensures { d.new ≡ put from (join (strings parts.now)) d.old }
 {
-    moves::copy_part(d, bounds[0] as usize, first);
-    moves::copy_part(d, bounds[1] as usize, second);
-    moves::copy_part(d, bounds[2] as usize, third);
-    moves::copy_part(d, bounds[3] as usize, fourth);
-    moves::copy_part(d, bounds[4] as usize, fifth);
-    moves::copy_part(d, bounds[5] as usize, sixth);
-    moves::copy_part(d, bounds[6] as usize, seventh);
+    let mut at = from;
+    for part in parts {
+        moves::copy_part(d, at, part);
+        at += part.len();
+    }
 }
 
 // Writes a share that nothing refuses: the header, then the parts in the order in which they lie.
@@ -194,35 +174,21 @@ fn lay_out(
     verdict: Verdict,
     root: &[u8],
     iv: &[u8],
-    first: &[u8],
-    second: &[u8],
-    third: &[u8],
-    fourth: &[u8],
-    fifth: &[u8],
-    sixth: &[u8],
-    seventh: &[u8],
+    parts: &[&[u8]],
 )
     requires { HeaderFits (is_mdmf edition) root.now iv.now verdict.bounds (length d.old)
-        × Packed (header_size (is_mdmf edition)) verdict.bounds (length first.now)
-        (length second.now) (length third.now) (length fourth.now) (length fifth.now)
-        (length sixth.now) (length seventh.now)
-        × (get_or verdict.bounds 7 0 ≤ length d.old) }
+        × (header_size (is_mdmf edition) + length (join (strings parts.now)) ≤ length d.old) }
     ensures { d.new
         ≡ put 0
         (join (number_fields (is_mdmf edition) verdict.numbers.sequence root.now iv.now
         verdict.numbers.required verdict.numbers.total verdict.numbers.segment_size
         verdict.numbers.data_length)
         ++ (join (offset_fields (is_mdmf edition) verdict.bounds)
-        ++ join
-        (first.now ∷ second.now ∷ third.now ∷ fourth.now
-        ∷ fifth.now ∷ sixth.now ∷ seventh.now ∷ [])))
+        ++ join (strings parts.now)))
         d.old }
 {
-    let bounds = verdict.bounds;
-    fields::put_header(d, edition, verdict.numbers, root, iv, bounds);
-    put_parts(
-        d, bounds, first, second, third, fourth, fifth, sixth, seventh,
-    );
+    fields::put_header(d, edition, verdict.numbers, root, iv, verdict.bounds);
+    put_parts(d, edition.header_size() as usize, parts);
 }
 
 // Writes the SDMF share that the numbers and parts determine into the front of the space. It has no seventh part.
@@ -254,15 +220,7 @@ pub fn write_sdmf(
         private_key.now)
         d.old }
 {
-    let sizes = [
-        key.len(),
-        signature.len(),
-        chain.len(),
-        tree.len(),
-        share_data.len(),
-        private_key.len(),
-        0,
-    ];
+    let parts = [key, signature, chain, tree, share_data, private_key, b""];
     let numbers = Numbers {
         sequence,
         required,
@@ -270,42 +228,19 @@ pub fn write_sdmf(
         segment_size: 0,
         data_length,
     };
-    let verdict = match verdict_of(
-        Edition::Sdmf,
-        numbers,
-        root,
-        iv,
-        sizes,
-        chain,
-        tree,
-        share_data,
-        d.len(),
-    ) {
-        Ok(verdict) => verdict,
-        Err(refusal) => {
-            return Written {
-                number: refusal.number(),
-                length: 0,
-            };
+    let judged = verdict_of(Edition::Sdmf, numbers, root, iv, &parts, d.len());
+    match judged {
+        Ok(verdict) => {
+            lay_out(d, Edition::Sdmf, verdict, root, iv, &parts);
+            Written {
+                number: 0,
+                length: verdict.bounds[7],
+            }
         }
-    };
-    lay_out(
-        d,
-        Edition::Sdmf,
-        verdict,
-        root,
-        iv,
-        key,
-        signature,
-        chain,
-        tree,
-        share_data,
-        private_key,
-        b"",
-    );
-    Written {
-        number: 0,
-        length: verdict.bounds[7],
+        Err(refusal) => Written {
+            number: refusal.number(),
+            length: 0,
+        },
     }
 }
 
@@ -339,15 +274,7 @@ pub fn write_mdmf(
         share_data.now tree.now)
         d.old }
 {
-    let sizes = [
-        private_key.len(),
-        chain.len(),
-        signature.len(),
-        key.len(),
-        spare.len(),
-        share_data.len(),
-        tree.len(),
-    ];
+    let parts = [private_key, chain, signature, key, spare, share_data, tree];
     let numbers = Numbers {
         sequence,
         required,
@@ -355,41 +282,18 @@ pub fn write_mdmf(
         segment_size,
         data_length,
     };
-    let verdict = match verdict_of(
-        Edition::Mdmf,
-        numbers,
-        root,
-        b"",
-        sizes,
-        chain,
-        tree,
-        share_data,
-        d.len(),
-    ) {
-        Ok(verdict) => verdict,
-        Err(refusal) => {
-            return Written {
-                number: refusal.number(),
-                length: 0,
-            };
+    let judged = verdict_of(Edition::Mdmf, numbers, root, b"", &parts, d.len());
+    match judged {
+        Ok(verdict) => {
+            lay_out(d, Edition::Mdmf, verdict, root, b"", &parts);
+            Written {
+                number: 0,
+                length: verdict.bounds[7],
+            }
         }
-    };
-    lay_out(
-        d,
-        Edition::Mdmf,
-        verdict,
-        root,
-        b"",
-        private_key,
-        chain,
-        signature,
-        key,
-        spare,
-        share_data,
-        tree,
-    );
-    Written {
-        number: 0,
-        length: verdict.bounds[7],
+        Err(refusal) => Written {
+            number: refusal.number(),
+            length: 0,
+        },
     }
 }

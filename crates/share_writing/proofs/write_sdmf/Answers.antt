@@ -4,7 +4,6 @@ use native.Mathlib.Omega.{arith}
 use Rattle.share_format.specs.Parts.{Share, part_list, places_of}
 use Rattle.share_rules.specs.Writing.{sdmf_with, write_rows, write_outcome}
 use Rattle.share_rules.proofs.WritingLaws.{places_end, answer-refused, answer-done, encoded}
-use Rattle.share_writing.proofs.SizeLaws.{places_seven}
 use Rattle.share_writing.proofs.VerdictLaws.{layable, refusal_number-above}
 use Rattle.share_writing.proofs.write_sdmf.Goals as goal
 
@@ -26,12 +25,11 @@ lay_out-requires c =
     sdmf_with a.sequence a.root.now a.iv.now a.required a.total a.data_length a.key.now
     a.signature.now a.chain.now a.tree.now a.share_data.now a.private_key.now in
     let v = c.in-Ok.ensures in
-    let l = layable given _ _ (sym v.number) v.bounds in
-    (l.0, rw v.bounds (places_seven _ _ _ _ _ _ _ _), l.1)
+    layable given _ _ (sym v.number) v.bounds
 
-pub returns : goal.returns
+pub returns-in-Ok : goal.returns-in-Ok
 unfolding part_list places_of write_outcome write_rows
-returns c =
+returns-in-Ok c =
     let given : Share =
     let a = c.args in
     sdmf_with a.sequence a.root.now a.iv.now a.required a.total a.data_length a.key.now
