@@ -127,7 +127,8 @@ fn verdict_of(
     if root.len() != HASH_SIZE {
         return Err(Refusal::Fields);
     }
-    if iv.len() != edition.iv_size() {
+    let iv_size = edition.iv_size();
+    if iv.len() != iv_size {
         return Err(Refusal::Fields);
     }
     let header = edition.header_size();

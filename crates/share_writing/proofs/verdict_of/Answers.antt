@@ -25,18 +25,18 @@ returns-then-root-ne-HASH_SIZE c = judges_3 _ _ _ _ _ _ (missized _ _ _ c.if-roo
 
 pub returns-then-iv-iv_size : goal.returns-then-iv-iv_size
 returns-then-iv-iv_size c =
-    let k = missized_iv _ _ _ c.if-root-ne-HASH_SIZE.false (λ h. c.if-iv-iv_size.true (h ∙ sym c.iv_size.ensures)) in
+    let k = missized_iv _ _ _ c.if-root-ne-HASH_SIZE.false (λ h. c.if-iv-iv_size.true (h ∙ sym c.iv_size-iv_size.ensures)) in
     judges_3 _ _ _ _ _ _ k
 
 pub returns-then-not-has_room : goal.returns-then-not-has_room
 returns-then-not-has_room c =
-    let s = sized _ _ _ c.if-root-ne-HASH_SIZE.false (c.if-iv-iv_size.false ∙ c.iv_size.ensures) in
+    let s = sized _ _ _ c.if-root-ne-HASH_SIZE.false (c.if-iv-iv_size.false ∙ c.iv_size-iv_size.ensures) in
     let e = rw c.header_size-header.ensures at (sym c.has_room.ensures ∙ c.if-not-has_room.true) in
     judges_7 _ _ _ _ _ _ s (leb-false _ _ e)
 
 pub returns-then-not-coding_ok : goal.returns-then-not-coding_ok
 returns-then-not-coding_ok c =
-    let s = sized _ _ _ c.if-root-ne-HASH_SIZE.false (c.if-iv-iv_size.false ∙ c.iv_size.ensures) in
+    let s = sized _ _ _ c.if-root-ne-HASH_SIZE.false (c.if-iv-iv_size.false ∙ c.iv_size-iv_size.ensures) in
     let r = leb-true _ _ (rw c.header_size-header.ensures at (sym c.has_room.ensures ∙ c.if-not-has_room.false)) in
     judges_23 _ _ _ _ _ _ s r (sym c.coding_ok.ensures ∙ c.if-not-coding_ok.true)
 
@@ -45,7 +45,7 @@ segment_of-found-requires c = (coding_facts _ _ (sym c.coding_ok.ensures ∙ c.i
 
 pub returns-in_err-segment : goal.returns-in_err-segment
 returns-in_err-segment c =
-    let s = sized _ _ _ c.if-root-ne-HASH_SIZE.false (c.if-iv-iv_size.false ∙ c.iv_size.ensures) in
+    let s = sized _ _ _ c.if-root-ne-HASH_SIZE.false (c.if-iv-iv_size.false ∙ c.iv_size-iv_size.ensures) in
     let r = leb-true _ _ (rw c.header_size-header.ensures at (sym c.has_room.ensures ∙ c.if-not-has_room.false)) in
     let k = sym c.coding_ok.ensures ∙ c.if-not-coding_ok.false in
     let p = err_from_is_err_and c.from_residual.result c.from_residual.ensures.1 in
@@ -60,7 +60,7 @@ bounds_fit-requires c =
 
 pub returns-then-not-bounds_fit : goal.returns-then-not-bounds_fit
 returns-then-not-bounds_fit c =
-    let s = sized _ _ _ c.if-root-ne-HASH_SIZE.false (c.if-iv-iv_size.false ∙ c.iv_size.ensures) in
+    let s = sized _ _ _ c.if-root-ne-HASH_SIZE.false (c.if-iv-iv_size.false ∙ c.iv_size-iv_size.ensures) in
     let r = leb-true _ _ (rw c.header_size-header.ensures at (sym c.has_room.ensures ∙ c.if-not-has_room.false)) in
     let k = sym c.coding_ok.ensures ∙ c.if-not-coding_ok.false in
     let n : c.segment_of-found.result ≡ Some c.in_ok-segment.segment = c.in_ok-segment.ensures.ok_part in
@@ -81,7 +81,7 @@ content_outcome-requires c =
 
 pub returns-in_err-content_outcome : goal.returns-in_err-content_outcome
 returns-in_err-content_outcome c =
-    let s = sized _ _ _ c.if-root-ne-HASH_SIZE.false (c.if-iv-iv_size.false ∙ c.iv_size.ensures) in
+    let s = sized _ _ _ c.if-root-ne-HASH_SIZE.false (c.if-iv-iv_size.false ∙ c.iv_size-iv_size.ensures) in
     let r = leb-true _ _ (rw c.header_size-header.ensures at (sym c.has_room.ensures ∙ c.if-not-has_room.false)) in
     let k = sym c.coding_ok.ensures ∙ c.if-not-coding_ok.false in
     let n : c.segment_of-found.result ≡ Some c.in_ok-segment.segment = c.in_ok-segment.ensures.ok_part in
@@ -97,7 +97,7 @@ returns-in_err-content_outcome c =
 
 pub returns : goal.returns
 returns c =
-    let s = sized _ _ _ c.if-root-ne-HASH_SIZE.false (c.if-iv-iv_size.false ∙ c.iv_size.ensures) in
+    let s = sized _ _ _ c.if-root-ne-HASH_SIZE.false (c.if-iv-iv_size.false ∙ c.iv_size-iv_size.ensures) in
     let r = leb-true _ _ (rw c.header_size-header.ensures at (sym c.has_room.ensures ∙ c.if-not-has_room.false)) in
     let k = sym c.coding_ok.ensures ∙ c.if-not-coding_ok.false in
     let n : c.segment_of-found.result ≡ Some c.in_ok-segment.segment = c.in_ok-segment.ensures.ok_part in
