@@ -71,13 +71,11 @@ pub extern "C" fn beamsatchel_audit(c: &[u8], rows: &mut [LeaseRow]) -> Answer
 {
     let given = upkeep::auditing::audit_answer(c, rows.len());
     let n = given.count as usize;
-    let mut i = 0;
     let mut at = 0;
-    while i < n {
+    for i in 0..n {
         let lease = upkeep::auditing::next_lease(c, at);
         rows[i] = lease.row;
         at = lease.next;
-        i += 1;
     }
     given
 }

@@ -1,5 +1,5 @@
 -- What is lent lies inside the container and is its data. Assumes nothing.
-use mathlib.Core.Path.{◌≡◌, refl}
+use mathlib.Core.Path.{◌≡◌, refl, ap}
 use mathlib.Core.Bool.{Bool, true, false, cond, not}
 use mathlib.Core.List.{List, [], ◌∷◌}
 use Prim.Native.Nat.{ℕ, ◌+◌, ◌-◌, ◌≤◌}
@@ -7,9 +7,12 @@ use native.Mathlib.Nat.{add_comm}
 use native.Mathlib.Omega.{arith}
 use lib.ListN.{length, take, drop}
 use Rattle.format.specs.declared.layout.Frame.{Frame}
-use Rattle.format.specs.declared.judging.Judged.TheVariants.{BadLength, Malformed, Formed}
-use Rattle.container.specs.declared.data.Lent.{Lent}
-use Rattle.container.specs.Data.{beyond, lent_of, data_lent}
+use Rattle.std.specs.Prelude.{Result, Ok, Err}
+use Rattle.std.specs.Result.{result_unwrap_or}
+use Rattle.std.specs.declared.ops.Range.{Range}
+use Rattle.format.specs.declared.judging.Flaw.{Flaw}
+use Rattle.format.specs.declared.judging.Flaw.TheVariants.{BadLength, Malformed}
+use Rattle.container.specs.Data.{Lent, beyond, lent_as, lent_of, data_lent}
 use Rattle.format.specs.Container.{well_formed, length_allowed}
 use Rattle.octets.specs.Rows.{first_row, row}
 use Rattle.format.specs.Judging.{Judges}
@@ -61,6 +64,32 @@ lent-inside c l e = rw e ((lends c).rises, (lends c).fits)
 pub lent-bytes : (c : List ℕ) (l : Lent) → l ≡ lent_of c → take (l.to - l.from) (drop l.from c) ≡ data_lent c
 lent-bytes c l e = rw e (lends c).bytes
 
+-- What `find_data` answers, or the empty stretch at the start: it lies inside, and is the data.
+pub record Stretch (c : List ℕ) (r : Range ℕ) : Type 0 where
+  pub from : r.start ≡ (lent_of c).from
+  pub rises : r.start ≤ r.end
+  pub fits : r.end ≤ length c
+  pub bytes : take (r.end - r.start) (drop r.start c) ≡ data_lent c
+
+pub stretch : (c : List ℕ) (o : Result (Range ℕ) Flaw) → lent_as o ≡ lent_of c → (r : Range ℕ) →
+    r ≡ result_unwrap_or o (record { start = 0; end = 0 }) → Stretch c r
+stretch c o e r w = go (r.start) (r.end) (ap (λ (l : Lent). l.from) (as_lent o e w)) (ap (λ (l : Lent). l.to) (as_lent o e w))
+  where
+    as_lent : (o : Result (Range ℕ) Flaw) → lent_as o ≡ lent_of c → r ≡ result_unwrap_or o (record { start = 0; end = 0 }) →
+        ◌≡◌ {A = Lent} (record { number = (lent_as o).number; from = r.start; to = r.end }) (lent_of c)
+    as_lent (Ok x) e w = rw w e
+    as_lent (Err y) e w = rw w e
+
+    go : (a b : ℕ) → a ≡ (lent_of c).from → b ≡ (lent_of c).to → Stretch c (record { start = a; end = b })
+    go a b x y =
+        let l = lends c in
+        record {
+          from = x;
+          rises = rw (x, y) l.rises;
+          fits = rw y l.fits;
+          bytes = rw (x, y) l.bytes;
+        }
+
 -- The number is 0, 1 or 2.
 pub lent-number : (c : List ℕ) (P : ℕ → Type 0) → P 0 → P 1 → P 2 → P (lent_of c).number
 unfolding lent_of first_row
@@ -81,18 +110,13 @@ none_lent c h = go (well_formed c) refl
     go false e = refl
 
 -- ---- the answers
-pub lent_length : (c : List ℕ) → Judges c BadLength
-    → ◌≡◌ {A = Lent} (record { number = 1; from = 0; to = 0 }) (lent_of c)
+pub lent-flawed : (c : List ℕ) (e : Flaw) → Judges c (Err e) → lent_as (Err e) ≡ lent_of c
 unfolding lent_of first_row
-lent_length c e = let l = judged-length c e in rw (l, length_unformed c l)
+lent-flawed c BadLength j = let l = judged-length c j in rw (l, length_unformed c l)
+lent-flawed c Malformed j = let m = judged-malformed c j in rw (m.0, m.1)
 
-pub lent-malformed : (c : List ℕ) → Judges c Malformed
-    → ◌≡◌ {A = Lent} (record { number = 2; from = 0; to = 0 }) (lent_of c)
-unfolding lent_of first_row
-lent-malformed c e = let m = judged-malformed c e in rw (m.0, m.1)
-
-pub lent_formed : (c : List ℕ) (f : Frame) (e : ℕ) → Judges c (Formed f) → e ≡ data_at + f.size
-    → ◌≡◌ {A = Lent} (record { number = 0; from = data_at; to = e }) (lent_of c)
+pub lent_formed : (c : List ℕ) (f : Frame) (e : ℕ) → Judges c (Ok f) → e ≡ data_at + f.size
+    → lent_as (Ok (record { start = data_at; end = e })) ≡ lent_of c
 unfolding lent_of first_row
 lent_formed c f e j k =
     let h = judged_formed c f j in

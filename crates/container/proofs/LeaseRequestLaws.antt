@@ -1,5 +1,5 @@
 -- What a lease request answers and leaves, by the rules of the whole container. Assumes nothing.
-use mathlib.Core.Path.{◌≡◌, refl, ◌∙◌}
+use mathlib.Core.Path.{◌≡◌, refl, ap, ◌∙◌}
 use mathlib.Core.Bool.{Bool, true, false, cond, not, ◌&&◌}
 use mathlib.Core.List.{List, [], ◌∷◌}
 use mathlib.Core.Option.{some}
@@ -17,10 +17,12 @@ use Rattle.rules.specs.Outcomes.{rows, room_rows, request_rows, replies, answer_
 use Rattle.rules.specs.Outcomes.{reply_bytes, reply_to, outcome, answered, container_after, reply_after, admit_rows}
 use Rattle.rules.specs.Outcomes.{find_rows}
 use Rattle.rules.proofs.OutcomeLaws.{outcome_formed}
-use Rattle.leases.specs.Operations.{lease_outcome, lease_done, lease_container}
+use Rattle.leases.specs.Operations.{done_of, lease_outcome, lease_done, lease_container}
 use Rattle.octets.specs.Lists.{maybe}
-use Rattle.leases.specs.declared.operations.Done.{Done}
 use Rattle.rules.specs.declared.Answer.{Answer}
+use Rattle.std.specs.Prelude.{Result, Ok, Err}
+use Rattle.rules.specs.Refusals.{answer_from}
+use Rattle.rules.specs.declared.outcomes.Refusal.{Refusal}
 
 -- Kinds 2 to 4.
 abbrev pub LeaseRequest : Request → Type 0
@@ -77,18 +79,22 @@ module _ (c q : List ℕ) (w : Request) (f : well_formed c ≡ true) (is : reque
   outcome_is : (r : List ℕ) → outcome c q (length r) ≡ lease_outcome (parts_of c) w
   outcome_is r = outcome_formed c q (length r) f ∙ rw is (outcome-lease (parts_of c) w (length r) l)
 
-  pub lease-answered : (d : Done) → d ≡ lease_done (parts_of c) w → (r : List ℕ) → answer_of d.number no_node d.count
-      ≡ answered c q r
+  lease-answered : (o : Result ℕ Refusal) → done_of o ≡ lease_done (parts_of c) w → (r : List ℕ) →
+      answer_from o ≡ answered c q r
   unfolding answered answer_to lease_done
-  lease-answered d e r =
+  lease-answered o e r =
       let n = plain (parts_of c) w l in
-      rw (e, outcome_is r, is, n.no_node_holds, n.only_done)
+      as_done o ∙ rw (e, outcome_is r, is, n.no_node_holds, n.only_done)
+    where
+      as_done : (o : Result ℕ Refusal) → answer_from o ≡ answer_of (done_of o).number no_node (done_of o).count
+      as_done (Ok n) = refl
+      as_done (Err e) = refl
 
-  pub lease_container_lem : (r : List ℕ) → lease_container c w ≡ container_after c q r
+  lease_container_lem : (r : List ℕ) → lease_container c w ≡ container_after c q r
   unfolding container_after lease_container after_of maybe
   lease_container_lem r = rw (outcome_is r, is)
 
-  pub lease_reply : (r : List ℕ) → r ≡ reply_after c q r
+  lease_reply : (r : List ℕ) → r ≡ reply_after c q r
   unfolding reply_after reply_bytes maybe
   lease_reply r = rw (is, no_reply (parts_of c) w l) (go (replies (outcome c q (length r))))
     where
@@ -96,8 +102,11 @@ module _ (c q : List ℕ) (w : Request) (f : well_formed c ≡ true) (is : reque
       go true = refl
       go false = refl
 
-  -- the answer, the container and the reply space that a call of the lease code makes
-  pub lease-results : (d : Done) (e r : List ℕ) (x : Answer) → d ≡ lease_done (parts_of c) w → e ≡ lease_container c w
-      → x ≡ answer_of d.number no_node d.count
-      → (x ≡ answered c q r) × ((e ≡ container_after c q r) × (r ≡ reply_after c q r))
-  lease-results d e r x i j k = (k ∙ lease-answered d i r, (j ∙ lease_container_lem r, lease_reply r))
+  -- the answer, the container and the reply space that a call of the lease code makes, whose argument is the request's
+  pub lease-results : (v : Request) → v ≡ w → (o : Result ℕ Refusal) (e r : List ℕ) (x : Answer) →
+      done_of o ≡ lease_done (parts_of c) v → e ≡ lease_container c v → x ≡ answer_from o →
+      (x ≡ answered c q r) × ((e ≡ container_after c q r) × (r ≡ reply_after c q r))
+  lease-results v s o e r x i j k = (
+    k ∙ lease-answered o (i ∙ ap (lease_done (parts_of c)) s) r,
+    (j ∙ ap (lease_container c) s ∙ lease_container_lem r, lease_reply r),
+  )

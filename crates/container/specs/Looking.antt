@@ -2,6 +2,10 @@
 -- proofs/LookingLaws.antt.
 use Rattle.std.specs.Prelude.{ℕ, ◌≡◌, List, []}
 use Rattle.std.proofs.Math.Option.{Option, none, some}
+use Rattle.std.specs.Prelude.{Some, None}
+use Rattle.std.specs.Prelude.{Option as Maybe}
+use Rattle.requests.specs.Forms.{ReadRequest}
+use Rattle.requests.specs.declared.forms.Table.{Table}
 use Rattle.octets.specs.Facts.{Octets}
 use Rattle.rules.specs.Requests.{Read, Request, test_write, add, renew, cancel, read, request_of}
 use Rattle.rules.specs.Outcomes.{answered, container_after}
@@ -14,6 +18,11 @@ read_bytes (some (add r)) q = []
 read_bytes (some (renew t x)) q = []
 read_bytes (some (cancel t)) q = []
 read_bytes (some (read rs)) q = q
+
+-- The answer to the bytes q: the table of a read, or that they are no read.
+abbrev pub Looks : List ℕ → Maybe Table → Type 0
+Looks q None = read_bytes (request_of q) q ≡ []
+Looks q (Some t) = ReadRequest q t
 
 -- The request of a caller that may only read: a read as it is, and the empty request for any other bytes (O28).
 unfoldable pub read_of : List ℕ → List ℕ

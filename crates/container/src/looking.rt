@@ -2,35 +2,42 @@
 ghost use Rattle.std.specs.Prelude.{◌≡◌};
 ghost use Rattle.format.specs.Judging.{Known};
 ghost use Rattle.rules.specs.Outcomes.{answered, reply_after};
-ghost use Rattle.container.specs.Looking.{read_of};
+ghost use Rattle.container.specs.Looking.{Looks, read_of};
 
-use format::judging::Judged;
 use format::layout::Frame;
 use reading::read;
 use requests::cursors::Cursor;
-use requests::forms::{Form, REQUEST_LIMIT, read_form};
+use requests::forms::{REQUEST_LIMIT, Table, read_form};
+use requests::kinds::Kind;
 use rules::Answer;
-use rules::answers::answer;
+use rules::outcomes::Refusal;
 
-// On a container that has been judged, for crates above too. Of the five kinds only a read is taken apart.
+// The table of a read; of the five kinds no other is taken apart.
+fn table_of(q: &[u8]) -> Option<Table>
+    ensures { Looks q.now result }
+{
+    if q.is_empty() {
+        return None;
+    }
+    if REQUEST_LIMIT < q.len() {
+        return None;
+    }
+    let first = Cursor::start().byte(q);
+    match Kind::try_from(first.value).ok()? {
+        Kind::Read => read_form(q, first.next),
+        _ => None,
+    }
+}
+
+// On a container that has been judged, for crates above too.
 pub fn read_formed(c: &[u8], frame: Frame, q: &[u8], r: &mut [u8]) -> Answer
     requires { Known c.now frame }
     ensures value { result ≡ answered c.now (read_of q.now) r.old }
     ensures r_after { r.new ≡ reply_after c.now (read_of q.now) r.old }
 {
-    if q.len() == 0 {
-        return answer(3, 0);
-    }
-    if REQUEST_LIMIT < q.len() {
-        return answer(3, 0);
-    }
-    let kind = Cursor::start().byte(q);
-    if kind.value != 5 {
-        return answer(3, 0);
-    }
-    match read_form(q, kind.next) {
-        Form::Read(t) => read(c, frame, q, t, r),
-        _ => answer(3, 0),
+    match table_of(q) {
+        Some(t) => read(c, frame, q, t, r),
+        None => Answer::refused(Refusal::BadRequest),
     }
 }
 
@@ -39,8 +46,7 @@ pub fn read_only(c: &[u8], q: &[u8], r: &mut [u8]) -> Answer
     ensures r_after { r.new ≡ reply_after c.now (read_of q.now) r.old }
 {
     match format::judging::judge(c) {
-        Judged::BadLength => answer(1, 0),
-        Judged::Malformed => answer(2, 0),
-        Judged::Formed(frame) => read_formed(c, frame, q, r),
+        Ok(frame) => read_formed(c, frame, q, r),
+        Err(flaw) => Answer::refused(flaw.into()),
     }
 }

@@ -3,13 +3,12 @@ ghost use Rattle.std.specs.Prelude.{◌≡◌};
 ghost use Rattle.format.specs.Judging.{Known};
 ghost use Rattle.rules.specs.Outcomes.{answered, container_after, reply_after};
 
-use format::judging::Judged;
 use format::layout::{Frame, RECORD_SIZE, SECRET_SIZE};
 use leases::operations::{add_lease, cancel_lease, renew_lease};
 use reading::read;
 use requests::forms::Form;
 use rules::Answer;
-use rules::answers::answer;
+use rules::outcomes::Refusal;
 use writing::test_and_write;
 
 // On a container that has been judged, by the form of the request; for crates above too.
@@ -20,25 +19,22 @@ pub fn apply_formed(c: &mut [u8], frame: Frame, q: &[u8], r: &mut [u8]) -> Answe
     ensures r_after { r.new ≡ reply_after c.old q.now r.old }
 {
     match requests::forms::form_of(q) {
-        Form::Broken => answer(3, 0),
-        Form::TestWrite(t) => test_and_write(c, frame, q, t, r),
-        Form::Add(lease) => {
+        None => Answer::refused(Refusal::BadRequest),
+        Some(Form::TestWrite(t)) => test_and_write(c, frame, q, t, r),
+        Some(Form::Add(lease)) => {
             let whole = lease.whole.body(q, RECORD_SIZE);
             let renewal = lease.renewal.body(q, SECRET_SIZE);
-            let done = add_lease(c, frame, whole.bytes(q), renewal.bytes(q), lease.expiry);
-            answer(done.number, done.count)
+            add_lease(c, frame, whole.bytes(q), renewal.bytes(q), lease.expiry).into()
         }
-        Form::Renew(at, expiry) => {
+        Some(Form::Renew(at, expiry)) => {
             let token = at.body(q, SECRET_SIZE);
-            let done = renew_lease(c, frame, token.bytes(q), expiry);
-            answer(done.number, done.count)
+            renew_lease(c, frame, token.bytes(q), expiry).into()
         }
-        Form::Cancel(at) => {
+        Some(Form::Cancel(at)) => {
             let token = at.body(q, SECRET_SIZE);
-            let done = cancel_lease(c, frame, token.bytes(q));
-            answer(done.number, done.count)
+            cancel_lease(c, frame, token.bytes(q)).into()
         }
-        Form::Read(t) => read(c, frame, q, t, r),
+        Some(Form::Read(t)) => read(c, frame, q, t, r),
     }
 }
 
@@ -48,8 +44,7 @@ pub fn apply(c: &mut [u8], q: &[u8], r: &mut [u8]) -> Answer
     ensures r_after { r.new ≡ reply_after c.old q.now r.old }
 {
     match format::judging::judge(c) {
-        Judged::BadLength => answer(1, 0),
-        Judged::Malformed => answer(2, 0),
-        Judged::Formed(frame) => apply_formed(c, frame, q, r),
+        Ok(frame) => apply_formed(c, frame, q, r),
+        Err(flaw) => Answer::refused(flaw.into()),
     }
 }

@@ -10,7 +10,7 @@ use format::layout::{
     DATA_AT, ENABLER_AT, LEAST, LIMIT, NODE_AT, NODE_SIZE, OFFSET_AT, SECRET_SIZE,
 };
 use rules::Answer;
-use rules::answers::answer;
+use rules::outcomes::Refusal;
 
 // Everything is overwritten: the buffer may hold anything.
 fn write_fresh(c: &mut [u8], node: &[u8], enabler: &[u8])
@@ -18,7 +18,7 @@ fn write_fresh(c: &mut [u8], node: &[u8], enabler: &[u8])
     ensures { c.new
         ≡ encode (fresh (length c.old) node.now enabler.now) }
 {
-    octets::moves::clear(c);
+    c.fill(0);
     octets::moves::copy_part(c, 0, &format::layout::MAGIC);
     octets::moves::copy_part(c, NODE_AT, node);
     octets::moves::copy_part(c, ENABLER_AT, enabler);
@@ -30,20 +30,20 @@ pub fn create(c: &mut [u8], node: &[u8], enabler: &[u8]) -> Answer
     ensures c_after { c.new ≡ created_container c.old node.now enabler.now }
 {
     if c.len() < LEAST {
-        return answer(1, 0);
+        return Answer::refused(Refusal::BadLength);
     }
     if LIMIT < c.len() {
-        return answer(1, 0);
+        return Answer::refused(Refusal::BadLength);
     }
     if node.len() != NODE_SIZE {
-        return answer(3, 0);
+        return Answer::refused(Refusal::BadRequest);
     }
     if enabler.len() != SECRET_SIZE {
-        return answer(3, 0);
+        return Answer::refused(Refusal::BadRequest);
     }
     if format::judging::has_magic(c) {
-        return answer(12, 0);
+        return Answer::refused(Refusal::AlreadyContainer);
     }
     write_fresh(c, node, enabler);
-    answer(0, 0)
+    Answer::done(0)
 }

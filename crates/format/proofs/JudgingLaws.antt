@@ -1,16 +1,16 @@
 -- What the tests of the judging pass say, in the form in which the code reads the buffer, and what each answer of it
 -- means. Assumes nothing.
 use mathlib.Core.Path.{◌≡◌, refl, sym, ap, ◌∙◌}
-use mathlib.Core.Bool.{Bool, true, false, cond, not, ◌&&◌}
-use mathlib.Core.Option.{none, some}
+use mathlib.Core.Bool.{Bool, true, false, not, ◌&&◌}
+use Rattle.std.specs.Prelude.{Some, None, Ok, Err}
 use mathlib.Core.List.{List, [], ◌∷◌}
 use Prim.Native.Nat.{ℕ, zero, suc, ◌+◌, ◌*◌, ◌-◌, ◌≤◌, ◌<◌}
 use native.Mathlib.Omega.{arith}
-use native.Mathlib.Nat.{not-suc-le-zero}
 use lib.Dec.{eqb}
 use lib.ListN.{length, take, drop, length-drop}
 use lib.Seq.{take-take, take_all}
 use borrow.Author.Tests.{leb-true, eq-eqb, ne_eqb, le-leb, lt-leb}
+use Rattle.std.specs.List.{list_all, range_with_len}
 use Rattle.octets.specs.Numbers.{number, number_at}
 use Rattle.octets.specs.Strings.{all_zero}
 use Rattle.format.specs.Layout.{least, limit, leases_at, count_at, size_of, extras_of, records, leases_of, owner_of}
@@ -18,15 +18,15 @@ use Rattle.format.specs.Layout.{data_at, extra_limit, record_size, size_width, s
 use Rattle.format.specs.Layout.{count_size, used_length, extras_at, used_end, data_end, slack_of}
 use Rattle.format.specs.Container.{length_allowed, held, record_ok, last_held, fields_ok, contents_ok, well_formed}
 use Rattle.format.specs.Judging.{fields_found, Framed, Judges, Known, frame_of}
-use Rattle.octets.proofs.ListLaws.{both, and_assoc, every_append}
+use Rattle.std.proofs.lemmas.Option.{cond_some, none-some}
+use Rattle.octets.proofs.ListLaws.{both, by_refuting, and_assoc, every_append}
 use Rattle.format.proofs.WellFormed.{fields_facts, formed_facts, used_is, last_held-records}
 use Rattle.format.proofs.WellFormed.{Fields}
 use Rattle.format.proofs.RoundTrip.{extra_leases}
 use Rattle.octets.specs.Lists.{every}
 use Rattle.octets.specs.Rows.{first_row, row}
 use Rattle.format.specs.declared.layout.Frame.{Frame}
-use Rattle.format.specs.declared.judging.Judged.TheVariants.{BadLength, Malformed, Formed}
-use Rattle.format.specs.declared.judging.Fields.TheVariants.{Disagree, Agree}
+use Rattle.format.specs.declared.judging.Flaw.TheVariants.{BadLength, Malformed}
 
 -- ---- one record, by its owner as it stands in the buffer
 owner_at : (p : ℕ) (c : List ℕ) → owner_of (take record_size (drop p c)) ≡ number_at 4 p c
@@ -46,25 +46,20 @@ pub record_none : (p : ℕ) (c : List ℕ) → number_at 4 p c ≡ 0 → record_
 unfolding record_ok
 record_none p c h = rw (held_at p c, eq-eqb _ _ h)
 
--- ---- the loop over records: a turn, a stop, the end
-pub records_more : (n p : ℕ) (c : List ℕ) → 0 < n → record_ok (take record_size (drop p c)) ≡ true
-    → every record_ok (records n p c) ≡ every record_ok (records (n - 1) (p + record_size) c)
+-- ---- the records, each tested where it stands
+records_from : (n a p : ℕ) (c : List ℕ)
+    → list_all (λ i. record_ok (take record_size (drop (p + record_size * i) c))) (range_with_len a n)
+    ≡ every record_ok (records n (p + record_size * a) c)
 unfolding records every
-records_more zero p c h e = absurd (not-suc-le-zero h)
-records_more (suc n) p c h e =
-    let k : suc n - 1 ≡ n = omega arith in
-    rw (e, k)
+records_from zero a p c = refl
+records_from (suc n) a p c =
+    let k : p + record_size * a + record_size ≡ p + record_size * (a + 1) = omega arith in
+    rw (k, records_from n (a + 1) p c)
 
-pub records_stop : (n p : ℕ) (c : List ℕ) → 0 < n → record_ok (take record_size (drop p c)) ≡ false
-    → every record_ok (records n p c) ≡ false
-unfolding records every
-records_stop zero p c h e = absurd (not-suc-le-zero h)
-records_stop (suc n) p c h e = rw e
-
-pub records-end : (n p : ℕ) (c : List ℕ) → n ≤ 0 → every record_ok (records n p c) ≡ true
-unfolding records every
-records-end zero p c h = refl
-records-end (suc n) p c h = absurd (not-suc-le-zero h)
+pub records_each : (n p : ℕ) (c : List ℕ)
+    → list_all (λ i. record_ok (take record_size (drop (p + record_size * i) c))) (range_with_len 0 n)
+    ≡ every record_ok (records n p c)
+records_each n p c = let k : p + record_size * 0 ≡ p = omega arith in rw (records_from n 0 p c, k)
 
 -- ---- the last of the records
 pub last_none : (n p : ℕ) (c : List ℕ) → n ≡ 0 → last_held (records n p c) ≡ true
@@ -158,56 +153,45 @@ pub known_most : (c : List ℕ) (f : Frame) → Known c f → length c ≤ limit
 known_most c f k = (formed_facts c k.formed).most
 
 -- ---- what `find_fields` tells its caller
-pub found_agree : (c : List ℕ) (f : Frame) → Agree f ≡ fields_found c → Framed c f
-found_agree c f p = go (fields_ok c) refl p
-  where
-    go : (t : Bool) → fields_ok c ≡ t → Agree f ≡ cond t (Agree (frame_of c)) Disagree → Framed c f
-    go true h q = record { is = cc; agree = h }
-    go false h q = absurd (let z : ◌≡◌ {A = ℕ} 0 1 = cc in omega arith)
+pub found_agree : (c : List ℕ) (f : Frame) → Some f ≡ fields_found c → Framed c f
+found_agree c f p = let k = cond_some (fields_ok c) (frame_of c) f (sym p) in record { is = sym k.1; agree = k.0 }
 
-pub found_disagree : (c : List ℕ) → Disagree ≡ fields_found c → fields_ok c ≡ false
-found_disagree c p = go (fields_ok c) refl p
-  where
-    go : (t : Bool) → fields_ok c ≡ t → Disagree ≡ cond t (Agree (frame_of c)) Disagree → fields_ok c ≡ false
-    go true h q = absurd (let z : ◌≡◌ {A = ℕ} 0 1 = cc in omega arith)
-    go false h q = h
+pub found_disagree : (c : List ℕ) → None ≡ fields_found c → fields_ok c ≡ false
+found_disagree c p = by_refuting (fields_ok c) (λ h. none-some (frame_of c) (p ∙ rw h))
 
 -- ---- what `judge` answers
-pub judge_length : (c : List ℕ) → length_allowed c ≡ false → Judges c BadLength
+pub judge_length : (c : List ℕ) → length_allowed c ≡ false → Judges c (Err BadLength)
 unfolding first_row
 judge_length c h = record { number = rw h; frame = rw (length_unformed c h) }
 
-unformed : (c : List ℕ) → length_allowed c ≡ true → well_formed c ≡ false → Judges c Malformed
+unformed : (c : List ℕ) → length_allowed c ≡ true → well_formed c ≡ false → Judges c (Err Malformed)
 unfolding first_row
 unformed c h k = record { number = rw (h, k); frame = rw k }
 
-pub judge_fields : (c : List ℕ) → length_allowed c ≡ true → fields_ok c ≡ false → Judges c Malformed
+pub judge_fields : (c : List ℕ) → length_allowed c ≡ true → fields_ok c ≡ false → Judges c (Err Malformed)
 unfolding well_formed
 judge_fields c h k = unformed c h (rw (h, k))
 
-module _ (c : List ℕ) (f : Frame) (l : length_allowed c ≡ true) (found : Agree f ≡ fields_found c) where
+module _ (c : List ℕ) (f : Frame) (l : length_allowed c ≡ true) (found : Some f ≡ fields_found c) where
   by_contents : (t : Bool) → contents_ok c ≡ t → well_formed c ≡ t
   unfolding well_formed
   by_contents t k = rw (l, (found_agree c f found).agree, k)
 
-  pub judge_formed : contents_ok c ≡ true → Judges c (Formed f)
+  pub judge_formed : contents_ok c ≡ true → Judges c (Ok f)
   unfolding first_row
   judge_formed k =
       let w : well_formed c ≡ true = by_contents true k in
-      record { number = rw (l, w); frame = rw w (ap some (found_agree c f found).is) }
+      record { number = rw (l, w); frame = rw w (ap Some (found_agree c f found).is) }
 
-  pub judge_contents : contents_ok c ≡ false → Judges c Malformed
+  pub judge_contents : contents_ok c ≡ false → Judges c (Err Malformed)
   judge_contents k = unformed c l (by_contents false k)
 
 -- ---- what an answer of `judge` means
-pub judged_formed : (c : List ℕ) (f : Frame) → Judges c (Formed f) → Known c f
-judged_formed c f j = go (well_formed c) refl j.frame
-  where
-    go : (w : Bool) → well_formed c ≡ w → some f ≡ cond w (some (frame_of c)) none → Known c f
-    go true h q = record { is = cc; formed = h }
-    go false h q = absurd (let z : ◌≡◌ {A = ℕ} 0 1 = cc in omega arith)
+pub judged_formed : (c : List ℕ) (f : Frame) → Judges c (Ok f) → Known c f
+judged_formed c f j =
+    let k = cond_some (well_formed c) (frame_of c) f (sym j.frame) in record { is = sym k.1; formed = k.0 }
 
-pub judged-malformed : (c : List ℕ) → Judges c Malformed → (length_allowed c ≡ true) × (well_formed c ≡ false)
+pub judged-malformed : (c : List ℕ) → Judges c (Err Malformed) → (length_allowed c ≡ true) × (well_formed c ≡ false)
 unfolding first_row
 judged-malformed c j = go (length_allowed c) (well_formed c) refl refl j.number
   where
@@ -218,7 +202,7 @@ judged-malformed c j = go (length_allowed c) (well_formed c) refl refl j.number
     go true false g h q = (g, h)
     go false w g h q = absurd (omega arith)
 
-pub judged-length : (c : List ℕ) → Judges c BadLength → length_allowed c ≡ false
+pub judged-length : (c : List ℕ) → Judges c (Err BadLength) → length_allowed c ≡ false
 unfolding first_row
 judged-length c j = go (length_allowed c) (well_formed c) refl j.number
   where

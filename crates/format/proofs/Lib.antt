@@ -3,6 +3,7 @@
 pub mod WellFormed
 pub mod RoundTrip
 pub mod JudgingLaws
+pub mod ChunkLaws
 pub mod KnownLaws
 pub mod ViewLaws
 pub mod ByteLaws

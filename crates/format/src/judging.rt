@@ -11,18 +11,11 @@ use crate::layout::{
     MAGIC_SIZE, OFFSET_AT, RECORD_SIZE, SIZE_AT,
 };
 
-// Outcome 1, outcome 2, or a well-formed container's frame.
-#[derive(Clone, Copy)]
-pub enum Judged {
+// Why a buffer is no container: outcome 1, and outcome 2.
+#[derive(Clone, Copy, Debug, PartialEq, Eq)]
+pub enum Flaw {
     BadLength,
     Malformed,
-    Formed(Frame),
-}
-
-#[derive(Clone, Copy)]
-enum Fields {
-    Disagree,
-    Agree(Frame),
 }
 
 pub fn has_magic(c: &[u8]) -> bool
@@ -48,16 +41,7 @@ fn records_ok(c: &[u8], from: usize, n: usize) -> bool
     requires { from + record_size * n ≤ length c.now }
     ensures { result ≡ every record_ok (records n from c.now) }
 {
-    let mut left = n;
-    let mut at = from;
-    while 0 < left {
-        if !record_ok(c, at) {
-            return false;
-        }
-        left -= 1;
-        at += RECORD_SIZE;
-    }
-    true
+    (0..n).all(|i| record_ok(c, from + RECORD_SIZE * i))
 }
 
 fn last_held(c: &[u8], from: usize, n: usize) -> bool
@@ -78,28 +62,28 @@ fn zero_between(c: &[u8], from: usize, to: usize) -> bool
 }
 
 // Magic, offset field, count, and that all lies inside; sums are made only after their parts are known to be small.
-fn find_fields(c: &[u8]) -> Fields
+fn find_fields(c: &[u8]) -> Option<Frame>
     requires { length_allowed c.now ≡ true }
     ensures { result ≡ fields_found c.now }
 {
     let n = c.len();
     if !has_magic(c) {
-        return Fields::Disagree;
+        return None;
     }
     let size = octets::numbers::u64_at(c, SIZE_AT) as usize;
     if n - LEAST < size {
-        return Fields::Disagree;
+        return None;
     }
     let offset = octets::numbers::u64_at(c, OFFSET_AT) as usize;
     if offset < DATA_AT + size {
-        return Fields::Disagree;
+        return None;
     }
     if n - COUNT_SIZE < offset {
-        return Fields::Disagree;
+        return None;
     }
     let extras = octets::numbers::u32_at(c, offset) as usize;
     if EXTRA_LIMIT < extras {
-        return Fields::Disagree;
+        return None;
     }
     let frame = Frame {
         size,
@@ -107,9 +91,9 @@ fn find_fields(c: &[u8]) -> Fields
         extras,
     };
     if n < frame.used() {
-        return Fields::Disagree;
+        return None;
     }
-    Fields::Agree(frame)
+    Some(frame)
 }
 
 fn contents_ok(c: &[u8], frame: Frame) -> bool
@@ -133,22 +117,18 @@ fn contents_ok(c: &[u8], frame: Frame) -> bool
     zero_between(c, frame.data_end(), frame.offset)
 }
 
-pub fn judge(c: &[u8]) -> Judged
+pub fn judge(c: &[u8]) -> Result<Frame, Flaw>
     ensures { Judges c.now result }
 {
     if c.len() < LEAST {
-        return Judged::BadLength;
+        return Err(Flaw::BadLength);
     }
     if LIMIT < c.len() {
-        return Judged::BadLength;
+        return Err(Flaw::BadLength);
     }
-    match find_fields(c) {
-        Fields::Disagree => Judged::Malformed,
-        Fields::Agree(frame) => {
-            if contents_ok(c, frame) {
-                return Judged::Formed(frame);
-            }
-            Judged::Malformed
-        }
+    let frame = find_fields(c).ok_or(Flaw::Malformed)?;
+    if !contents_ok(c, frame) {
+        return Err(Flaw::Malformed);
     }
+    Ok(frame)
 }

@@ -54,7 +54,8 @@ pub const LEAST: usize = DATA_AT + COUNT_SIZE;
 pub const LIMIT: usize = 16777216;
 
 // What judging a container finds: the data size, the offset of the extra-lease count, and the number of extra leases.
-#[derive(Clone, Copy)]
+// No invariant bounds them: `frame_of` (specs/Judging) is a frame of any bytes.
+#[derive(Clone, Copy, Debug, PartialEq, Eq)]
 pub struct Frame {
     pub size: usize,
     pub offset: usize,
@@ -95,13 +96,14 @@ impl Frame {
     }
 
     // The frame with another size of the data, one that a request would reach: the count moves where it must.
+    #[tactic(auto, unfolding(crate::specs::Layout::moved_count))]
     pub fn resized(self, size: usize) -> Frame
         requires { size ≤ 4294967296 }
         ensures { result ≡ resized_to self size }
     {
         Frame {
-            size: size,
-            offset: octets::choices::greater(self.offset, DATA_AT + size),
+            size,
+            offset: self.offset.max(DATA_AT + size),
             extras: self.extras,
         }
     }

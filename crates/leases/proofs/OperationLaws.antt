@@ -3,7 +3,9 @@
 use mathlib.Core.Path.{◌≡◌, refl, sym, ap, ◌∙◌}
 use mathlib.Core.Bool.{Bool, true, false, cond, not, ◌&&◌}
 use mathlib.Core.List.{List, [], ◌∷◌, ◌++◌}
-use mathlib.Core.Option.{Option, none, some}
+use mathlib.Core.Option.{none, some}
+use mathlib.Core.Option.{Option as Maybe}
+use Rattle.std.specs.Prelude.{Option, Some, None, IfSome, Result, Ok, Err}
 use Prim.Native.Nat.{ℕ, zero, suc, ◌+◌, ◌-◌, ◌≤◌, ◌<◌}
 use native.Mathlib.Omega.{arith}
 use lib.Dec.{eqb, leb, ltb}
@@ -26,47 +28,49 @@ use Rattle.rules.proofs.LeaseLaws.{first_found, held-later}
 use Rattle.rules.proofs.Kept.{used_fewer}
 use Rattle.format.specs.Judging.{Known}
 use Rattle.leases.specs.Places.{has_token, found_of}
-use Rattle.leases.specs.Operations.{lease_outcome, lease_done, lease_container}
+use Rattle.leases.specs.Operations.{done_of, lease_outcome, lease_done, lease_container}
 use Rattle.leases.proofs.PlaceLaws.{present-append, known_places}
 use Rattle.format.proofs.KnownLaws.{extras_framed}
 use Rattle.leases.specs.Changes.{leased_as}
 use Rattle.leases.proofs.ChangeLaws.{used_leases, extras_more}
-use Rattle.leases.specs.declared.places.Found.TheVariants.{At, Nowhere}
-use Rattle.leases.specs.declared.places.Found.{Found}
 use Rattle.format.specs.declared.layout.Frame.{Frame}
+use Rattle.rules.specs.Refusals.{number_of}
+use Rattle.rules.specs.declared.outcomes.Refusal.{Refusal}
+use Rattle.rules.specs.declared.outcomes.Refusal.TheVariants.{NoLease, LeasesFull, NoRoom}
 
 -- ---- what a search found
-found_at : (o : Option ℕ) (i : ℕ) → At i ≡ found_of o → o ≡ some i
+found_at : (o : Maybe ℕ) (i : ℕ) → Some i ≡ found_of o → o ≡ some i
 found_at none i e = absurd (let z : ◌≡◌ {A = ℕ} 0 1 = cc in omega arith)
 found_at (some j) i e = cc
 
-found_nowhere : (o : Option ℕ) → Nowhere ≡ found_of o → o ≡ none
+found_nowhere : (o : Maybe ℕ) → None ≡ found_of o → o ≡ none
 found_nowhere none e = refl
 found_nowhere (some j) e = absurd (let z : ◌≡◌ {A = ℕ} 0 1 = cc in omega arith)
 
 -- the search through the leases of c answers a
-abbrev pub Finds : List ℕ → (List ℕ → Bool) → Found → Type 0
+abbrev pub Finds : List ℕ → (List ℕ → Bool) → Option ℕ → Type 0
 Finds c test a = a ≡ found_of (first_of test (leases_of c))
 
-pub found_inside : (c : List ℕ) (f : Frame) → Known c f → (test : List ℕ → Bool) (i : ℕ) → Finds c test (At i) →
-    i < fixed_places + f.extras
-found_inside c f k test i q =
+pub found_inside : (c : List ℕ) (f : Frame) → Known c f → (test : List ℕ → Bool) (o : Option ℕ) → Finds c test o →
+    IfSome o (λ i. i < fixed_places + f.extras)
+found_inside c f k test None q = tt
+found_inside c f k test (Some i) q =
     omega (arith, (first_found test (leases_of c) i (found_at _ i q)).inside, known_places c f k)
 
 module _ (c t : List ℕ) where
-  renewal_at_lem : (i : ℕ) → Finds c (has_token renewal_at t) (At i) → first_of (renewed_by t) (leases_of c) ≡ some i
+  renewal_at_lem : (i : ℕ) → Finds c (has_token renewal_at t) (Some i) → first_of (renewed_by t) (leases_of c) ≡ some i
   unfolding has_token renewed_by renewal_of
   renewal_at_lem i q = found_at _ i q
 
-  renewal_nowhere : Finds c (has_token renewal_at t) Nowhere → first_of (renewed_by t) (leases_of c) ≡ none
+  renewal_nowhere : Finds c (has_token renewal_at t) None → first_of (renewed_by t) (leases_of c) ≡ none
   unfolding has_token renewed_by renewal_of
   renewal_nowhere q = found_nowhere _ q
 
-  cancel_at_lem : (i : ℕ) → Finds c (has_token cancel_at t) (At i) → first_of (cancelled_by t) (leases_of c) ≡ some i
+  cancel_at_lem : (i : ℕ) → Finds c (has_token cancel_at t) (Some i) → first_of (cancelled_by t) (leases_of c) ≡ some i
   unfolding has_token cancelled_by cancel_of
   cancel_at_lem i q = found_at _ i q
 
-  cancel_nowhere : Finds c (has_token cancel_at t) Nowhere → first_of (cancelled_by t) (leases_of c) ≡ none
+  cancel_nowhere : Finds c (has_token cancel_at t) None → first_of (cancelled_by t) (leases_of c) ≡ none
   unfolding has_token cancelled_by cancel_of
   cancel_nowhere q = found_nowhere _ q
 
@@ -158,7 +162,7 @@ module _ (p : Parts) (r : List ℕ) where
       few : (leb lease_limit (present p.leases) && not known) ≡ false
       few = rw (lt-leb lease_limit (present p.leases) h)
 
-      placed : (o : Option ℕ) → first_of vacant p.leases ≡ o →
+      placed : (o : Maybe ℕ) → first_of vacant p.leases ≡ o →
           after p (add r) ≡ with_leases p (maybe (p.leases ++ (r ∷ [])) (λ i. set p.leases i r) o)
       unfolding after added placed_in maybe
       placed o q = rw (e, q)
@@ -183,18 +187,19 @@ module _ (p : Parts) (r : List ℕ) where
         add_extra u = (fitting false more few (placed none q) (le-ltb _ _ u), placed none q)
 
 -- ---- the two kinds of answer
-abbrev pub Answered : List ℕ → Request → ℕ → ℕ → List ℕ → Type 0
-Answered c q n k d = (record { number = n; count = k } ≡ lease_done (parts_of c) q) × (d ≡ lease_container c q)
+abbrev pub Answered : List ℕ → Request → Result ℕ Refusal → List ℕ → Type 0
+Answered c q r d = (done_of r ≡ lease_done (parts_of c) q) × (d ≡ lease_container c q)
 
-refused : (c : List ℕ) (q : Request) (n : ℕ) → lease_outcome (parts_of c) q ≡ suc n → Answered c q (suc n) 0 c
+refused : (c : List ℕ) (q : Request) (e : Refusal) (n : ℕ) → number_of e ≡ suc n →
+    lease_outcome (parts_of c) q ≡ suc n → Answered c q (Err e) c
 unfolding lease_done lease_container
-refused c q n e =
+refused c q e n m h =
     let z : eqb (suc n) 0 ≡ false = ne_eqb (suc n) 0 (λ w. omega arith) in
-    (rw (e, z), rw (e, z))
+    (rw (h, z, m), rw (h, z))
 
 done : (c : List ℕ) (q : Request) (ls : List (List ℕ)) (n : ℕ) (d : List ℕ) → Leaves (parts_of c) q ls →
     counted (parts_of c) q ≡ present (after (parts_of c) q).leases → n ≡ present ls → d ≡ leased_as c ls →
-    Answered c q 0 n d
+    Answered c q (Ok n) d
 unfolding lease_done lease_container with_leases
 done c q ls n d e k m w = (rw (e.0, k, e.1, m), rw (e.0, e.1) w)
 
@@ -212,21 +217,21 @@ module _ (c : List ℕ) (f : Frame) (k : Known c f) where
       sym (present-extended x (leases_of c) i h (each_at Place (leases_of c) i [] h valid.places).size)
 
   module _ (t : List ℕ) (x : ℕ) where
-    pub renew_here : (i n : ℕ) (d : List ℕ) → Finds c (has_token renewal_at t) (At i) → n ≡ present (leases_of c) →
-        d ≡ leased_as c (extended x (leases_of c) i) → Answered c (renew t x) 0 n d
+    pub renew_here : (i n : ℕ) (d : List ℕ) → Finds c (has_token renewal_at t) (Some i) → n ≡ present (leases_of c) →
+        d ≡ leased_as c (extended x (leases_of c) i) → Answered c (renew t x) (Ok n) d
     unfolding parts_of counted
     renew_here i n d q m w =
         let g = renewal_at_lem c t i q in
         done c (renew t x) (extended x (leases_of c) i) n d (renew-some (parts_of c) t x i g) refl
         (m ∙ same-present (renewed_by t) x i g) w
 
-    pub renew_unknown : Finds c (has_token renewal_at t) Nowhere → Answered c (renew t x) 9 0 c
+    pub renew_unknown : Finds c (has_token renewal_at t) None → Answered c (renew t x) (Err NoLease) c
     unfolding parts_of
-    renew_unknown q = refused c (renew t x) 8 (renew-none (parts_of c) t x (renewal_nowhere c t q))
+    renew_unknown q = refused c (renew t x) NoLease 8 refl (renew-none (parts_of c) t x (renewal_nowhere c t q))
 
   module _ (t : List ℕ) where
     -- the lease that is cancelled is one of those present
-    pub cancelled-present : (i : ℕ) → Finds c (has_token cancel_at t) (At i) →
+    pub cancelled-present : (i : ℕ) → Finds c (has_token cancel_at t) (Some i) →
         present (drop_tail (set (leases_of c) i no_lease)) + 1 ≡ present (leases_of c)
     unfolding cancelled_by
     cancelled-present i q =
@@ -238,22 +243,22 @@ module _ (c : List ℕ) (f : Frame) (k : Known c f) where
           present-set (leases_of c) i no_lease true false g.inside h no_lease-held,
         )
 
-    pub cancel_here : (i n : ℕ) (d : List ℕ) → Finds c (has_token cancel_at t) (At i) → n ≡ present (leases_of c) →
-        d ≡ leased_as c (drop_tail (set (leases_of c) i no_lease)) → Answered c (cancel t) 0 (n - 1) d
+    pub cancel_here : (i n : ℕ) (d : List ℕ) → Finds c (has_token cancel_at t) (Some i) → n ≡ present (leases_of c) →
+        d ≡ leased_as c (drop_tail (set (leases_of c) i no_lease)) → Answered c (cancel t) (Ok (n - 1)) d
     unfolding parts_of counted
     cancel_here i n d q m w =
         let e = cancel-some (parts_of c) t i (cancel_at_lem c t i q) in
         done c (cancel t) (drop_tail (set (leases_of c) i no_lease)) (n - 1) d e refl
         (omega (arith, m, cancelled-present i q)) w
 
-    pub cancel_unknown : Finds c (has_token cancel_at t) Nowhere → Answered c (cancel t) 9 0 c
+    pub cancel_unknown : Finds c (has_token cancel_at t) None → Answered c (cancel t) (Err NoLease) c
     unfolding parts_of
-    cancel_unknown q = refused c (cancel t) 8 (cancel-none (parts_of c) t (cancel_nowhere c t q))
+    cancel_unknown q = refused c (cancel t) NoLease 8 refl (cancel-none (parts_of c) t (cancel_nowhere c t q))
 
   module _ (r : List ℕ) where
-    pub add_here : (i n x : ℕ) (d : List ℕ) → Finds c (has_token renewal_at (renewal_of r)) (At i) →
+    pub add_here : (i n x : ℕ) (d : List ℕ) → Finds c (has_token renewal_at (renewal_of r)) (Some i) →
         n ≡ present (leases_of c) → x ≡ expiry_of r → d ≡ leased_as c (extended x (leases_of c) i) →
-        Answered c (add r) 0 n d
+        Answered c (add r) (Ok n) d
     unfolding parts_of counted
     add_here i n x d q m y w =
         let g = renewal_at_lem c (renewal_of r) i q in
@@ -261,7 +266,7 @@ module _ (c : List ℕ) (f : Frame) (k : Known c f) where
         (m ∙ same-present (renewed_by (renewal_of r)) (expiry_of r) i g)
         (w ∙ ap (λ (v : ℕ). leased_as c (extended v (leases_of c) i)) y)
 
-    pub add_new : Finds c (has_token renewal_at (renewal_of r)) Nowhere →
+    pub add_new : Finds c (has_token renewal_at (renewal_of r)) None →
         knows (renewed_by (renewal_of r)) (leases_of c) ≡ false
     unfolding knows is_some
     add_new q = ap is_some (renewal_nowhere c (renewal_of r) q)
@@ -271,13 +276,13 @@ module _ (c : List ℕ) (f : Frame) (k : Known c f) where
       unfolding knows
       new = is_none _ u
 
-      pub place_full : lease_limit ≤ present (leases_of c) → Answered c (add r) 10 0 c
+      pub place_full : lease_limit ≤ present (leases_of c) → Answered c (add r) (Err LeasesFull) c
       unfolding parts_of
-      place_full h = refused c (add r) 9 (add-full (parts_of c) r new h)
+      place_full h = refused c (add r) LeasesFull 9 refl (add-full (parts_of c) r new h)
 
       module _ (n : ℕ) (l : n < lease_limit) (m : n ≡ present (leases_of c)) where
-        pub place_vacant : (i : ℕ) (d : List ℕ) → Finds c vacant (At i) → held r ≡ true →
-            d ≡ leased_as c (set (leases_of c) i r) → Answered c (add r) 0 (n + 1) d
+        pub place_vacant : (i : ℕ) (d : List ℕ) → Finds c vacant (Some i) → held r ≡ true →
+            d ≡ leased_as c (set (leases_of c) i r) → Answered c (add r) (Ok (n + 1)) d
         unfolding parts_of counted vacant
         place_vacant i d q h w =
             let e = found_at _ i q in
@@ -286,20 +291,20 @@ module _ (c : List ℕ) (f : Frame) (k : Known c f) where
             let b = add-vacant (parts_of c) r new (omega (arith, m)) i valid e in
             done c (add r) (set (leases_of c) i r) (n + 1) d b refl (omega (arith, m, p)) w
 
-        module _ (q : Finds c vacant Nowhere) where
+        module _ (q : Finds c vacant None) where
           used_more : used (with_leases (parts_of c) (leases_of c ++ (r ∷ []))) ≡ used_length f.offset (f.extras + 1)
           used_more =
               used_leases c f k (leases_of c ++ (r ∷ []))
               ∙ rw (extras_more (leases_of c) r (omega (arith, known_places c f k)), extras_framed k)
 
-          pub place_nowhere : length c < used_length f.offset (f.extras + 1) → Answered c (add r) 11 0 c
+          pub place_nowhere : length c < used_length f.offset (f.extras + 1) → Answered c (add r) (Err NoRoom) c
           unfolding parts_of
           place_nowhere h =
-              refused c (add r) 10
+              refused c (add r) NoRoom 10 refl
               (add_room (parts_of c) r new (omega (arith, m)) (found_nowhere _ q) (omega (arith, h, used_more)))
 
           pub place_extra : (d : List ℕ) → used_length f.offset (f.extras + 1) ≤ length c → held r ≡ true →
-              d ≡ leased_as c (leases_of c ++ (r ∷ [])) → Answered c (add r) 0 (n + 1) d
+              d ≡ leased_as c (leases_of c ++ (r ∷ [])) → Answered c (add r) (Ok (n + 1)) d
           unfolding parts_of counted present
           place_extra d h g w =
               let p : present (leases_of c ++ (r ∷ [])) ≡ n + 1 = present-append (leases_of c) (r ∷ []) ∙ rw (g, ← m) in

@@ -4,7 +4,11 @@ use mathlib.Core.Path.{◌≡◌, refl, sym, ap, ◌∙◌}
 use mathlib.Core.Bool.{Bool, true, false, cond}
 use mathlib.Core.List.{List, [], ◌∷◌, ◌++◌}
 use mathlib.Core.Option.{none, some}
-use Prim.Native.Nat.{ℕ, zero, suc, ◌+◌, ◌-◌, ◌*◌, ◌≤◌, ◌<◌}
+use mathlib.Core.Option.{Option as Maybe}
+use Rattle.std.specs.Prelude.{Option, Some, None}
+use Rattle.std.specs.List.{find, range_with_len}
+use Rattle.std.specs.Option.{option_map}
+use Prim.Native.Nat.{ℕ, suc, ◌+◌, ◌-◌, ◌*◌, ◌≤◌, ◌<◌}
 use native.Mathlib.Nat.{zero-add, add_assoc}
 use native.Mathlib.Omega.{arith}
 use lib.Dec.{ltb}
@@ -12,18 +16,18 @@ use lib.ListN.{length, take, drop, get_or, get_or-append}
 use lib.Seq.{get_or-append-add}
 use borrow.Author.Tests.{ltb-true, ltb-false, lt-ltb, le-ltb}
 use Rattle.format.specs.declared.layout.Frame.{Frame}
-use borrow.Author.Count.{below_more}
 use Rattle.format.specs.Layout.{limit, leases_at, count_at, extras_of, records, leases_of, fixed_places}
 use Rattle.format.specs.View.{place_at}
 use Rattle.format.specs.Layout.{record_size, extras_at, expiry_at, expiry_of}
 use Rattle.octets.specs.Numbers.{number, number_at}
 use Rattle.octets.proofs.ListLaws.{part_part}
 use Rattle.format.specs.Container.{held}
-use Rattle.format.proofs.WellFormed.{length-records, length_leases, records-add, record_at_lem}
+use Rattle.format.proofs.WellFormed.{length-records, length_leases, record_at_lem}
 use Rattle.rules.specs.Leasing.{first_of, with_last, trim, present}
 use Rattle.rules.proofs.LeaseLaws.{length-trim}
 use Rattle.format.specs.Judging.{Known}
 use Rattle.octets.specs.Lists.{maybe}
+use Rattle.leases.specs.Places.{found_of}
 use Rattle.format.proofs.JudgingLaws.{Sized, known_sized, known_most}
 use Rattle.format.proofs.KnownLaws.{frame_count, frame_extras}
 
@@ -91,59 +95,53 @@ inside c f k i h p q =
     record { ends = rw q (place_inside c f k i h); sized = known_sized c f k; most = known_most c f k }
 
 -- ---- the first place that passes a test
+-- a place, counted from another
+found_from : ℕ → Maybe ℕ → Option ℕ
+found_from a none = None
+found_from a (some i) = Some (a + i)
+
+found-start : (o : Maybe ℕ) → found_from 0 o ≡ found_of o
+unfolding found_from
+found-start none = refl
+found-start (some i) = ap Some (zero-add i)
+
+found_next : (a : ℕ) (o : Maybe ℕ) → found_from (a + 1) o ≡ found_from a (maybe none (λ i. some (suc i)) o)
+unfolding found_from maybe
+found_next a none = refl
+found_next a (some i) = ap Some (omega arith)
+
 module _ (test : List ℕ → Bool) where
-  abbrev Failed : List (List ℕ) → ℕ → Type 0
-  Failed ls i = (k : ℕ) → k < i → test (get_or ls k []) ≡ false
+  finds_from : (at : ℕ → Bool) (a : ℕ) (ls : List (List ℕ)) →
+      ((i : ℕ) → i < length ls → at (a + i) ≡ test (get_or ls i [])) →
+      find at (range_with_len a (length ls)) ≡ found_from a (first_of test ls)
+  unfolding first_of found_from
+  finds_from at a [] h = refl
+  finds_from at a (r ∷ ls) h =
+      let e : at a ≡ test r = ap at (omega arith) ∙ h 0 (omega arith) in
+      let t : find at (range_with_len (a + 1) (length ls)) ≡ found_from a (maybe none (λ i. some (suc i)) (first_of test ls)) =
+      finds_from at (a + 1) ls (λ i l. ap at (omega arith) ∙ h (suc i) (omega arith)) ∙ found_next a (first_of test ls) in
+      rw (e, t) (go (test r) a (maybe none (λ i. some (suc i)) (first_of test ls)))
+    where
+      go : (b : Bool) (a : ℕ) (o : Maybe ℕ) → cond b (Some a) (found_from a o) ≡ found_from a (cond b (some 0) o)
+      go true a o = ap Some (omega arith)
+      go false a o = refl
 
-  first_at : (ls : List (List ℕ)) (i : ℕ) → Failed ls i → i < length ls → test (get_or ls i []) ≡ true →
-      first_of test ls ≡ some i
-  unfolding first_of maybe
-  first_at [] i h l e = absurd (omega arith)
-  first_at (r ∷ ls) zero h l e = rw e
-  first_at (r ∷ ls) (suc i) h l e =
-      rw (h 0 (omega arith), first_at ls i (λ k q. h (suc k) (omega arith)) (omega arith) e)
-
-  first_none : (ls : List (List ℕ)) → Failed ls (length ls) → first_of test ls ≡ none
-  unfolding first_of maybe
-  first_none [] h = refl
-  first_none (r ∷ ls) h = rw (h 0 (omega arith), first_none ls (λ k q. h (suc k) (omega arith)))
-
--- no place before i passes the test
-abbrev pub Passed : (List ℕ → Bool) → List ℕ → ℕ → Type 0
-Passed test c i = (k : ℕ) → k < i → test (get_or (leases_of c) k []) ≡ false
-
-module _ (test : List ℕ → Bool) (c : List ℕ) (f : Frame) (k : Known c f) (i : ℕ) (n : Passed test c i) where
-  module _ (p : ℕ) (h : i < fixed_places + f.extras) (q : p ≡ place_at f.offset i) where
-    read : (t : Bool) → test (take record_size (drop p c)) ≡ t → test (get_or (leases_of c) i []) ≡ t
-    read t e = ap test (lease_at c f k i h) ∙ rw (← q) e
-
-    pub passed_here : test (take record_size (drop p c)) ≡ true → first_of test (leases_of c) ≡ some i
-    passed_here e = first_at test (leases_of c) i n (omega (arith, known_places c f k)) (read true e)
-
-    pub passed_more : test (take record_size (drop p c)) ≡ false → Passed test c (i + 1)
-    passed_more e = below_more (λ (j : ℕ). test (get_or (leases_of c) j []) ≡ false) i n (read false e)
-
-  pub passed_all : fixed_places + f.extras ≤ i → first_of test (leases_of c) ≡ none
-  passed_all h = first_none test (leases_of c) (λ j q. n j (omega (arith, known_places c f k)))
+  -- what a search through the numbers of the places finds
+  pub finds : (ls : List (List ℕ)) (r : Option ℕ) →
+      option_map (λ x. x) r ≡ find (λ i. test (get_or ls i [])) (range_with_len 0 (length ls)) →
+      r ≡ found_of (first_of test ls)
+  finds ls r e =
+      same r ∙ e ∙ finds_from (λ i. test (get_or ls i [])) 0 ls (λ i l. rw (zero-add i)) ∙ found-start (first_of test ls)
+    where
+      same : (o : Option ℕ) → o ≡ option_map (λ x. x) o
+      same None = refl
+      same (Some x) = refl
 
 -- ---- how many hold a lease
 pub present-append : (a b : List (List ℕ)) → present (a ++ b) ≡ present a + present b
 unfolding present
 present-append [] b = sym (zero-add (present b))
 present-append (r ∷ a) b = rw (present-append a b) (sym (add_assoc (cond (held r) 1 0) (present a) (present b)))
-
-pub present_more : (n p : ℕ) (c : List ℕ) (t : Bool) → 0 < n → held (take record_size (drop p c)) ≡ t →
-    present (records n p c) ≡ cond t 1 0 + present (records (n - 1) (p + record_size) c)
-unfolding present records
-present_more zero p c t h e = absurd (omega arith)
-present_more (suc n) p c t h e =
-    let k : suc n - 1 ≡ n = omega arith in
-    rw (e, k)
-
-pub present-none : (n p : ℕ) (c : List ℕ) → n ≤ 0 → present (records n p c) ≡ 0
-unfolding present records
-present-none zero p c h = refl
-present-none (suc n) p c h = absurd (omega arith)
 
 pub present_most : (ls : List (List ℕ)) → present ls ≤ length ls
 unfolding present
@@ -174,39 +172,15 @@ unfolding with_last
 with_some r x [] b = refl
 with_some r x (y ∷ a) b = refl
 
-trim-held : (a : List (List ℕ)) (r : List ℕ) → held r ≡ true → trim (a ++ (r ∷ [])) ≡ a ++ (r ∷ [])
+pub trim-held : (a : List (List ℕ)) (r : List ℕ) → held r ≡ true → trim (a ++ (r ∷ [])) ≡ a ++ (r ∷ [])
 unfolding trim with_last
 trim-held [] r h = rw h
 trim-held (x ∷ a) r h = ap (with_last x) (trim-held a r h) ∙ with_some r x a []
 
-trim-empty : (a : List (List ℕ)) (r : List ℕ) → held r ≡ false → trim (a ++ (r ∷ [])) ≡ trim a
+pub trim-empty : (a : List (List ℕ)) (r : List ℕ) → held r ≡ false → trim (a ++ (r ∷ [])) ≡ trim a
 unfolding trim with_last
 trim-empty [] r h = rw h
 trim-empty (x ∷ a) r h = ap (with_last x) (trim-empty a r h)
-
-module _ (n p : ℕ) (c : List ℕ) (h : 0 < n) where
-  abbrev last : List ℕ
-  last = take record_size (drop (p + record_size * (n - 1)) c)
-
-  -- the last of n places, taken off
-  records_last : records n p c ≡ records (n - 1) p c ++ (last ∷ [])
-  unfolding records
-  records_last =
-      let e : n ≡ n - 1 + 1 = omega arith in
-      ap (λ (m : ℕ). records m p c) e ∙ records-add (n - 1) 1 p c
-
-  pub kept_all : held last ≡ true → length (trim (records n p c)) ≡ n
-  kept_all e =
-      ap length (ap trim records_last ∙ trim-held (records (n - 1) p c) last e ∙ sym records_last)
-      ∙ length-records n p c
-
-  pub kept_fewer : held last ≡ false → trim (records n p c) ≡ trim (records (n - 1) p c)
-  kept_fewer e = ap trim records_last ∙ trim-empty (records (n - 1) p c) last e
-
-pub kept-none : (n p : ℕ) (c : List ℕ) → n ≤ 0 → length (trim (records n p c)) ≡ 0
-unfolding records trim
-kept-none zero p c h = refl
-kept-none (suc n) p c h = absurd (omega arith)
 
 pub kept_few : (n p : ℕ) (c : List ℕ) → length (trim (records n p c)) ≤ n
 kept_few n p c = omega (arith, length-trim (records n p c), length-records n p c)

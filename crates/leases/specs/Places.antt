@@ -1,16 +1,16 @@
 -- The lease places in the bytes of a well-formed container.
-use Rattle.std.specs.Prelude.{ℕ, Bool, ◌&&◌, List, take, drop}
-use Rattle.std.proofs.Math.Option.{Option, none, some}
+use Rattle.std.specs.Prelude.{ℕ, Bool, ◌&&◌, List, take, drop, Option, Some, None}
+use Rattle.std.proofs.Math.Option.{none, some}
+use Rattle.std.proofs.Math.Option.{Option as Maybe}
 use Rattle.octets.specs.Strings.{same}
 use Rattle.format.specs.Container.{held}
 use Rattle.format.specs.Layout.{secret_size}
-use Rattle.leases.specs.declared.places.Found.{Found}
-use Rattle.leases.specs.declared.places.Found.TheVariants.{At, Nowhere}
 
 -- A lease whose token stands at `field`.
 unfoldable pub has_token : ℕ → List ℕ → List ℕ → Bool
 has_token field token r = held r && same (take secret_size (drop field r)) token
 
-abbrev pub found_of : Option ℕ → Found
-found_of none = Nowhere
-found_of (some i) = At i
+-- What the rules' search found, as the code says it.
+abbrev pub found_of : Maybe ℕ → Option ℕ
+found_of none = None
+found_of (some i) = Some i

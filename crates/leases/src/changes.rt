@@ -1,4 +1,5 @@
-// Changes to one lease place of a well-formed container, in place: no other byte is touched but the count.
+// Changes to one lease place of a well-formed container, in place: no other byte is touched but the count. Buffer and
+// frame stay two parameters, as no struct that knows the one to be the other's keeps knowing it while a place changes.
 ghost use Rattle.std.specs.Prelude.{◌≡◌, [], ◌∷◌, ◌++◌, ◌+◌, ◌*◌, ◌≤◌, ◌<◌, length, set};
 ghost use Rattle.octets.specs.Moves.{put};
 ghost use Rattle.octets.specs.Numbers.{digits};

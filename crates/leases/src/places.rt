@@ -1,18 +1,12 @@
 // The lease places: the four, then the extras. Nothing here writes.
-ghost use Rattle.std.specs.Prelude.{◌≡◌, ◌+◌, ◌*◌, ◌≤◌, ◌<◌, length, take, drop};
+ghost use Rattle.std.specs.Prelude.{◌≡◌, ◌+◌, ◌*◌, ◌≤◌, ◌<◌, [], length, take, drop, get_or, IfSome};
 ghost use Rattle.format.specs.Container.{held};
-ghost use Rattle.format.specs.Layout.{leases_of, records, record_size, secret_size, lease_limit};
+ghost use Rattle.format.specs.Layout.{leases_of, records, record_size, secret_size, lease_limit, fixed_places};
 ghost use Rattle.rules.specs.Leasing.{vacant, first_of, present, trim};
 ghost use Rattle.format.specs.Judging.{Known};
 ghost use Rattle.leases.specs.Places.{has_token, found_of};
 
 use format::layout::{FIXED_PLACES, Frame, LEASES_AT, RECORD_SIZE, SECRET_SIZE};
-
-#[derive(Clone, Copy)]
-pub(crate) enum Found {
-    At(usize),
-    Nowhere,
-}
 
 // The place that begins at p holds a lease.
 pub fn is_held(c: &[u8], p: usize) -> bool
@@ -22,76 +16,16 @@ pub fn is_held(c: &[u8], p: usize) -> bool
     octets::numbers::u32_at(c, p) != 0
 }
 
-// The place that begins at p holds a lease with that token in the bytes from `field` on; all of them are compared.
-fn has_token(c: &[u8], p: usize, field: usize, token: &[u8]) -> bool
-    requires { (p + record_size ≤ length c.now) × (field + secret_size ≤ record_size)
-        × (length token.now ≡ secret_size) }
-    ensures { result ≡ has_token field token.now (take record_size (drop p c.now)) }
-{
-    if !is_held(c, p) {
-        return false;
-    }
-    let a = p + field;
-    let e = a + SECRET_SIZE;
-    octets::strings::same(&c[a..e], token)
-}
-
-// The first lease with that token.
-pub(crate) fn find(c: &[u8], frame: Frame, field: usize, token: &[u8]) -> Found
-    requires { Known c.now frame × (field + secret_size ≤ record_size) × (length token.now ≡ secret_size) }
-    ensures { result ≡ found_of (first_of (has_token field token.now) (leases_of c.now)) }
-{
-    let n = FIXED_PLACES + frame.extras;
-    let mut i = 0;
-    while i < n {
-        if has_token(c, frame.place_at(i), field, token) {
-            return Found::At(i);
-        }
-        i += 1;
-    }
-    Found::Nowhere
-}
-
-// The first empty place.
-pub(crate) fn find_vacant(c: &[u8], frame: Frame) -> Found
-    requires { Known c.now frame }
-    ensures { result ≡ found_of (first_of vacant (leases_of c.now)) }
-{
-    let n = FIXED_PLACES + frame.extras;
-    let mut i = 0;
-    while i < n {
-        if !is_held(c, frame.place_at(i)) {
-            return Found::At(i);
-        }
-        i += 1;
-    }
-    Found::Nowhere
-}
-
 // How many of the n places from p on hold a lease.
 fn count_held(c: &[u8], from: usize, n: usize) -> usize
     requires { (from + record_size * n ≤ length c.now) × (n ≤ lease_limit) }
     ensures { result ≡ present (records n from c.now) }
 {
-    let mut left = n;
-    let mut at = from;
-    let mut count = 0;
-    while 0 < left {
-        if is_held(c, at) {
-            count += 1;
-        }
-        at += RECORD_SIZE;
-        left -= 1;
-    }
-    count
-}
-
-// The leases present.
-pub fn count_leases(c: &[u8], frame: Frame) -> usize
-    requires { Known c.now frame }
-    ensures { result ≡ present (leases_of c.now) }
-{
-    count_held(c, LEASES_AT, FIXED_PLACES) + count_held(c, frame.extras_at(), frame.extras)
+    let e = from + RECORD_SIZE * n;
+    c[from..e]
+        .chunks_exact(RECORD_SIZE)
+        .filter(|r| is_held(r, 0))
+        .count()
 }
 
 // How many of the n places from p on are left when the empty ones at the tail are dropped.
@@ -99,12 +33,82 @@ pub(crate) fn kept(c: &[u8], from: usize, n: usize) -> usize
     requires { (from + record_size * n ≤ length c.now) × (n ≤ lease_limit) }
     ensures { result ≡ length (trim (records n from c.now)) }
 {
-    let mut left = n;
-    while 0 < left {
-        if is_held(c, from + RECORD_SIZE * (left - 1)) {
-            return left;
-        }
-        left -= 1;
+    let e = from + RECORD_SIZE * n;
+    c[from..e]
+        .chunks_exact(RECORD_SIZE)
+        .rposition(|r| is_held(r, 0))
+        .map_or(0, |i| i + 1)
+}
+
+// The lease places of a well-formed container: the four, then the extras.
+#[derive(Clone, Copy)]
+pub struct Places<'a> {
+    pub c: &'a [u8],
+    pub frame: Frame,
+    ghost known: { Known c.now frame },
+}
+
+impl<'a> Places<'a> {
+    // How many places there are.
+    fn len(&self) -> usize
+        ensures { result ≡ length (leases_of self.now.c.now) }
+    {
+        FIXED_PLACES + self.frame.extras
     }
-    0
+
+    // Where place i begins.
+    fn at(&self, i: usize) -> usize
+        requires { i < length (leases_of self.now.c.now) }
+        ensures inside { result + record_size ≤ length self.now.c.now }
+        ensures place { take record_size (drop result self.now.c.now) ≡ get_or (leases_of self.now.c.now) i [] }
+    {
+        self.frame.place_at(i)
+    }
+
+    fn is_held(&self, i: usize) -> bool
+        requires { i < length (leases_of self.now.c.now) }
+        ensures { result ≡ held (get_or (leases_of self.now.c.now) i []) }
+    {
+        is_held(self.c, self.at(i))
+    }
+
+    // Place i holds a lease with that token in the bytes from `field` on; all of them are compared.
+    fn has_token(&self, i: usize, field: usize, token: &[u8]) -> bool
+        requires { (i < length (leases_of self.now.c.now)) × (field + secret_size ≤ record_size)
+            × (length token.now ≡ secret_size) }
+        ensures { result ≡ has_token field token.now (get_or (leases_of self.now.c.now) i []) }
+    {
+        let p = self.at(i);
+        if !is_held(self.c, p) {
+            return false;
+        }
+        let a = p + field;
+        let e = a + SECRET_SIZE;
+        octets::strings::same(&self.c[a..e], token)
+    }
+
+    // The first lease with that token.
+    pub(crate) fn with_token(&self, field: usize, token: &[u8]) -> Option<usize>
+        requires { (field + secret_size ≤ record_size) × (length token.now ≡ secret_size) }
+        ensures first { result ≡ found_of (first_of (has_token field token.now) (leases_of self.now.c.now)) }
+        ensures inside { IfSome result (λ i. i < fixed_places + self.now.frame.extras) }
+    {
+        (0..self.len()).find(|&i| self.has_token(i, field, token))
+    }
+
+    // The first empty place.
+    pub(crate) fn vacant(&self) -> Option<usize>
+        ensures first { result ≡ found_of (first_of vacant (leases_of self.now.c.now)) }
+        ensures inside { IfSome result (λ i. i < fixed_places + self.now.frame.extras) }
+    {
+        (0..self.len()).find(|&i| !self.is_held(i))
+    }
+
+    // The leases present.
+    pub fn count(&self) -> usize
+        ensures { result ≡ present (leases_of self.now.c.now) }
+    {
+        count_held(self.c, LEASES_AT, FIXED_PLACES)
+            + count_held(self.c, self.frame.extras_at(), self.frame.extras)
+    }
 }

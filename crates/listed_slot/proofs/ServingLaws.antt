@@ -1,31 +1,41 @@
 -- What each outcome beside a list makes of answer, container, list and reply space. Assumes nothing.
 use mathlib.Core.Path.{◌≡◌, refl, sym, ap, ◌∙◌}
-use mathlib.Core.Bool.{Bool, true, false, cond}
+use mathlib.Core.Bool.{Bool, true, false, cond, false≢true}
 use mathlib.Core.List.{List, []}
 use mathlib.Core.Option.{Option, none, some}
 use Prim.Native.Nat.{ℕ, ◌≤◌, ◌<◌}
 use native.Mathlib.Omega.{arith}
 use lib.ListN.{length}
 use lib.Dec.{eqb, leb}
-use borrow.Author.Tests.{eqb-true, ne_eqb, leb-true, leb-false, lt-ltb, le-ltb}
+use borrow.Author.Tests.{eqb-true, eq-eqb, ne_eqb, leb-true, leb-false, lt-ltb, le-ltb}
 use Rattle.octets.specs.Facts.{Fits32}
-use Rattle.format.specs.Container.{length_allowed, well_formed}
-use Rattle.format.specs.Judging.{Known}
+use Rattle.format.specs.Container.{well_formed}
+use Rattle.std.specs.Prelude.{Option as Maybe, Some, None, Result, Err}
+use Rattle.format.specs.Judging.{Known, Judges}
+use Rattle.format.specs.declared.judging.Flaw.{Flaw}
+use Rattle.format.specs.declared.judging.Flaw.TheVariants.{BadLength, Malformed}
+use Rattle.format.proofs.JudgingLaws.{judged-length, judged-malformed}
 use Rattle.format.specs.Layout.{data_of, limit}
 use Rattle.format.specs.Parts.{Parts, parts_of}
 use Rattle.format.specs.declared.layout.Frame.{Frame}
 use Rattle.format.proofs.KnownLaws.{data_framed, known_room}
 use Rattle.rules.specs.Requests.{Request, test_write, add, renew, cancel, read, request_of, by_kind, kind_of}
 use Rattle.rules.specs.Changes.{changes_of}
-use Rattle.rules.specs.Outcomes.{replies, answer_of, no_node, outcome, answered, container_after, reply_after}
+use Rattle.rules.specs.Outcomes.{answer_of, no_node, outcome, answered, container_after, reply_after}
 use Rattle.rules.specs.declared.Answer.{Answer}
+use Rattle.rules.specs.declared.outcomes.Refusal.{Refusal}
+use Rattle.verdicts.specs.Writing.{verdict_number, verdict_of, Tells}
+use Rattle.verdicts.specs.declared.writing.Verdict.{Verdict}
 use Rattle.rules.proofs.OutcomeLaws.{answered-number}
-use Rattle.rules.proofs.RefusalLaws.{Refused, Silent, silent-answer}
-use Rattle.requests.specs.Forms.{PartedIn, WriteRequest, asked, writes_in, cut_in}
+use Rattle.rules.specs.Refusals.{number_of, refusal_of}
+use Rattle.rules.specs.declared.outcomes.Refusal.TheVariants.{TooManyStretches, BadList}
+use Rattle.rules.proofs.RefusalLaws.{Refused, Silent, silent-answer, refusal_silent, flawed}
+use Rattle.requests.specs.Forms.{PartedIn, WriteRequest, asked, writes_in, write_in, cut_in}
 use Rattle.requests.specs.declared.forms.Form.{Form}
-use Rattle.requests.specs.declared.forms.Form.TheVariants.{Broken, TestWrite, Add, Renew, Cancel}
+use Rattle.requests.specs.declared.forms.Form.TheVariants.{TestWrite, Add, Renew, Cancel}
 use Rattle.requests.specs.declared.forms.Form.TheVariants.{Read as ReadForm}
 use Rattle.requests.specs.declared.forms.Parted.{Parted}
+use Rattle.writing.proofs.WriteRequestLaws.{number_is}
 use Rattle.container.specs.Looking.{read_bytes, read_of}
 use Rattle.stretches.specs.Stretches.{Stretch, stretches_after}
 use Rattle.stretches.specs.List.{list_length, row_limit, rows_at, row_count, stretches_of, list_bytes, list_ok}
@@ -65,14 +75,14 @@ still_list p (some (renew t x)) l h = refl
 still_list p (some (cancel t)) l h = refl
 still_list p (some (read rs)) l h = refl
 
--- Of the six forms only the second, a test-and-write's, is none of them.
-pub still_form : (q : List ℕ) (f : Form) → ((x : Parted) → f ≡ TestWrite x → ⊥) → Still (asked q f)
-still_form q Broken k = tt
-still_form q (TestWrite t) k = absurd (k t refl)
-still_form q (Add r) k = tt
-still_form q (Renew t x) k = tt
-still_form q (Cancel t) k = tt
-still_form q (ReadForm t) k = tt
+-- Of the forms only a test-and-write's is none of them.
+pub still_form : (q : List ℕ) (f : Maybe Form) → ((x : Parted) → f ≡ Some (TestWrite x) → ⊥) → Still (asked q f)
+still_form q None k = tt
+still_form q (Some (TestWrite t)) k = absurd (k t refl)
+still_form q (Some (Add r)) k = tt
+still_form q (Some (Renew t x)) k = tt
+still_form q (Some (Cancel t)) k = tt
+still_form q (Some (ReadForm t)) k = tt
 
 empty_still : Still (request_of [])
 unfolding request_of by_kind kind_of
@@ -99,16 +109,16 @@ Served c l q r x d m s =
     × ((d ≡ container_beside c l q r) × ((m ≡ list_after c l q r) × (s ≡ reply_beside c l q r)))
 
 silent13 : Silent 13
-unfolding replies
-silent13 = record { not_done = refl; no_node_holds = refl; no_reply = refl }
+silent13 = refusal_silent TooManyStretches (λ e. cc)
 
 silent16 : Silent 16
-unfolding replies
-silent16 = record { not_done = refl; no_node_holds = refl; no_reply = refl }
+silent16 = refusal_silent BadList (λ e. cc)
 
-pub malformed-length : (c : List ℕ) → length_allowed c ≡ false → well_formed c ≡ false
+-- what is no container is not well formed, whatever its flaw
+flawed_formed : (c : List ℕ) (e : Flaw) → Judges c (Err e) → well_formed c ≡ false
 unfolding well_formed
-malformed-length c e = rw e
+flawed_formed c BadLength j = rw (judged-length c j)
+flawed_formed c Malformed j = (judged-malformed c j).1
 
 module _ (c l q r : List ℕ) where
   -- With the container's own number all but the list is the container's.
@@ -129,7 +139,7 @@ module _ (c l q r : List ℕ) where
   )
 
   -- A container that is not well formed refuses before the list is looked at.
-  pub malformed_served : {x : Answer} (n : ℕ) → 0 < n → well_formed c ≡ false → Refused n c q r →
+  malformed_served : {x : Answer} (n : ℕ) → 0 < n → well_formed c ≡ false → Refused n c q r →
       x ≡ answer_of n no_node 0 → Served c l q r x c l r
   malformed_served n h w f a =
       let o : outcome_beside c l q (length r) ≡ outcome c q (length r) = beside-malformed c l q (length r) w in
@@ -137,6 +147,13 @@ module _ (c l q r : List ℕ) where
       sym (answered-number c q r) ∙ sym (ap (λ (y : Answer). y.number) f.answer) in
       let z : outcome_beside c l q (length r) ≡ 0 → ⊥ = λ e. omega (arith, o, k, e) in
       own_served o (a ∙ f.answer) f.container (sym (list_kept c l q r z)) f.reply
+
+  pub flawed_served : {x : Answer} (e : Flaw) → Judges c (Err e) → x ≡ answer_of (number_of (refusal_of e)) no_node 0 →
+      Served c l q r x c l r
+  flawed_served BadLength j a =
+      malformed_served 1 (omega arith) (flawed_formed c BadLength j) (flawed BadLength c q r j) a
+  flawed_served Malformed j a =
+      malformed_served 2 (omega arith) (flawed_formed c Malformed j) (flawed Malformed c q r j) a
 
   module _ (w : well_formed c ≡ true) where
     -- 16
@@ -247,3 +264,16 @@ module _ {c : List ℕ} (l : List ℕ) {q : List ℕ} {f : Frame} {t : Parted} (
     list_written e i a p j =
         done_served c l q r K.formed G z (rw made_is (leb-true (length made) row_limit (sym B ∙ e))) a p
         (i ∙ rw e (sym list_is)) j
+
+-- ---- the verdict v on it, and b whether it accepts
+module _ {c q : List ℕ} (l r : List ℕ) {f : Frame} {t : Parted} {v : Result Verdict Refusal} {b : Bool}
+    (p : Known c f × (WriteRequest q t × (list_ok l (data_of c) ≡ true)))
+    (V : Tells v (verdict_of (parts_of c) (write_in t q) (length r))) (is : b ≡ eqb (verdict_number v) 0) where
+  same : outcome c q (length r) ≡ verdict_number v
+  same = number_is {c = c} {q = q} {r = r} {f = f} {t = t} {v = v} (record { known = p.0; request = p.1.0; verdict = V })
+
+  pub accepted_zero : b ≡ true → outcome c q (length r) ≡ 0
+  accepted_zero e = same ∙ eqb-true (verdict_number v) 0 (sym is ∙ e)
+
+  pub refused_some : b ≡ false → outcome c q (length r) ≡ 0 → ⊥
+  refused_some e z = false≢true (sym e ∙ is ∙ eq-eqb (verdict_number v) 0 (sym same ∙ z))

@@ -1,65 +1,49 @@
 // What a request's writes and its cut make of the list, before the container is written: row 13 is judged on it.
-ghost use Rattle.std.specs.Prelude.{◌≡◌, cond, ◌≤◌, ◌<◌, leb, length};
+ghost use Rattle.std.specs.Prelude.{◌≡◌, cond, ◌≤◌, leb, length};
 ghost use Rattle.std.proofs.Math.Option.{none};
 ghost use Rattle.format.specs.Layout.{limit};
 ghost use Rattle.requests.specs.Forms.{PartedIn, writes_in, cut_in};
-ghost use Rattle.stretches.specs.List.{list_length, row_limit, rows_from, stretches_of, list_bytes};
+ghost use Rattle.stretches.specs.List.{list_length, row_limit, stretches_of, list_bytes};
 ghost use Rattle.stretches.specs.Claims.{Storable};
-ghost use Rattle.lists.specs.Tables.{table_rows, Ready, Holds};
+ghost use Rattle.lists.specs.Tables.{rows_of, Ready};
 ghost use Rattle.listed_slot.specs.Following.{followed_by};
 
-use lists::list::{ROW_LIMIT, load, store};
-use lists::rows::{TABLE_SIZE, cut_to, write_over};
+use lists::list::ROW_LIMIT;
+use lists::rows::Rows;
 use requests::cursors::ENTRY_SIZE;
 use requests::forms::Parted;
-use requests::offsets::resolve;
+use requests::offsets::position;
 use writes::sizes::grown;
 
-// How many rows the table has, and the size of the data, after the writes.
-#[derive(Clone, Copy)]
-struct Followed {
-    count: usize,
-    size: usize,
-}
-
-// The table of the writes, an entry at a time: each is one pass over the rows.
-fn follow_writes(q: &[u8], t: Parted, size: usize, rows: &mut [u8], n: usize) -> Followed
-    requires { PartedIn q.now t × ((size ≤ limit) × (Ready rows.old n size × (n ≤ row_limit))) }
-    ensures rows_after { rows_from result.count 0 rows.new
-        ≡ followed_by (writes_in t q.now) none size (rows_from n 0 rows.old) }
-    ensures ready { Ready rows.new result.count result.size × (result.count < table_rows) }
+// The table of the writes, an entry at a time: each is one pass over the rows. The size of the data after them.
+fn follow_writes(rows: &mut Rows, q: &[u8], t: Parted, size: usize) -> usize
+    requires { PartedIn q.now t × ((size ≤ limit) × Storable (rows_of rows.old) size) }
+    ensures rows_after { rows_of rows.new
+        ≡ followed_by (writes_in t q.now) none size (rows_of rows.old) }
+    ensures ready { Ready rows.new result }
 {
-    let table = t.writes;
-    let mut left = table.count;
-    let mut cursor = table.first;
+    let mut cursor = t.writes.first;
     let mut after = size;
-    let mut count = n;
-    while 0 < left {
+    for _ in 0..t.writes.count {
         let entry = cursor.entry(q, ENTRY_SIZE);
-        let place = resolve(entry.offset, after);
-        count = write_over(rows, count, after, place.position, entry.count);
-        after = grown(after, place.position, entry.count);
+        let place = position(entry.offset, after);
+        rows.write_over(after, place, entry.count);
+        after = grown(after, place, entry.count);
         cursor = entry.next;
-        left -= 1;
     }
-    Followed {
-        count: count,
-        size: after,
-    }
+    after
 }
 
-// The writes, then the cut; how many rows there are then.
-fn follow(q: &[u8], t: Parted, size: usize, rows: &mut [u8], n: usize) -> usize
-    requires { PartedIn q.now t × ((size ≤ limit) × (Ready rows.old n size × (n ≤ row_limit))) }
-    ensures { Holds rows.new result
-        (followed_by (writes_in t q.now) (cut_in t.cut) size (rows_from n 0 rows.old)) }
+// The writes, then the cut.
+fn follow(rows: &mut Rows, q: &[u8], t: Parted, size: usize)
+    requires { PartedIn q.now t × ((size ≤ limit) × Storable (rows_of rows.old) size) }
+    ensures { rows_of rows.new
+        ≡ followed_by (writes_in t q.now) (cut_in t.cut) size (rows_of rows.old) }
 {
-    let written = follow_writes(q, t, size, rows, n);
-    let cut = t.cut;
-    if cut.set {
-        return cut_to(rows, written.count, written.size, cut.length);
+    let written = follow_writes(rows, q, t, size);
+    if let Some(length) = t.cut {
+        rows.cut_to(written, length);
     }
-    written.count
 }
 
 // Moves the list by the writes and the cut, unless it would have too many rows; whether it did.
@@ -72,12 +56,12 @@ pub(crate) fn write_list(l: &mut [u8], q: &[u8], t: Parted, size: usize) -> bool
         (followed_by (writes_in t q.now) (cut_in t.cut) size (stretches_of l.old)))
         l.old }
 {
-    let mut rows = [0; TABLE_SIZE];
-    let n = load(l, &mut rows);
-    let count = follow(q, t, size, &mut rows, n);
+    let mut rows = Rows::load(l);
+    follow(&mut rows, q, t, size);
+    let count = rows.len();
     if ROW_LIMIT < count {
         return false;
     }
-    store(l, &rows, count);
+    rows.store(l);
     true
 }

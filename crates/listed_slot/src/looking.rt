@@ -6,11 +6,10 @@ ghost use Rattle.container.specs.Looking.{read_of};
 ghost use Rattle.listed_rules.specs.Outcomes.{answered_beside, reply_beside};
 
 use container::looking::read_formed;
-use format::judging::Judged;
 use format::layout::{DATA_AT, Frame};
 use lists::list::list_ok;
 use rules::Answer;
-use rules::answers::answer;
+use rules::outcomes::Refusal;
 
 // On a container that has been judged.
 fn read_judged(c: &[u8], frame: Frame, l: &[u8], q: &[u8], r: &mut [u8]) -> Answer
@@ -21,7 +20,7 @@ fn read_judged(c: &[u8], frame: Frame, l: &[u8], q: &[u8], r: &mut [u8]) -> Answ
 {
     let to = frame.data_end();
     if !list_ok(l, &c[DATA_AT..to]) {
-        return answer(16, 0);
+        return Answer::refused(Refusal::BadList);
     }
     read_formed(c, frame, q, r)
 }
@@ -32,8 +31,7 @@ pub fn read_only(c: &[u8], l: &[u8], q: &[u8], r: &mut [u8]) -> Answer
         ≡ reply_beside c.now l.now (read_of q.now) r.old }
 {
     match format::judging::judge(c) {
-        Judged::BadLength => answer(1, 0),
-        Judged::Malformed => answer(2, 0),
-        Judged::Formed(frame) => read_judged(c, frame, l, q, r),
+        Ok(frame) => read_judged(c, frame, l, q, r),
+        Err(flaw) => Answer::refused(Refusal::from(flaw)),
     }
 }

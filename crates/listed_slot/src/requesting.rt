@@ -1,23 +1,30 @@
 // Apply beside a list: row 16 right after the container's judgement, row 13 behind the verdict.
-ghost use Rattle.std.specs.Prelude.{◌≡◌, true};
+ghost use Rattle.std.specs.Prelude.{◌≡◌, true, eqb};
 ghost use Rattle.format.specs.Judging.{Known};
 ghost use Rattle.format.specs.Layout.{data_of};
 ghost use Rattle.requests.specs.Forms.{WriteRequest};
+ghost use Rattle.verdicts.specs.Writing.{verdict_number};
 ghost use Rattle.stretches.specs.List.{list_ok};
 ghost use Rattle.listed_rules.specs.Outcomes.{answered_beside, container_beside, list_after, reply_beside};
 
 use crate::following::write_list;
 use container::requesting::apply_formed;
-use format::judging::Judged;
 use format::layout::{DATA_AT, Frame};
 use lists::list::list_ok;
 use requests::forms::{Form, Parted};
 use rules::Answer;
-use rules::answers::answer;
-use verdicts::writing::verdict_of;
+use rules::outcomes::Refusal;
+use verdicts::writing::{Verdict, verdict_of};
 use writing::settle;
 
-// Kind 1 beside a good list. Where the verdict is 0 and the rows fit, nothing refuses any more.
+// Whether nothing refuses the request and every test holds.
+fn accepted(verdict: Result<Verdict, Refusal>) -> bool
+    ensures { result ≡ eqb (verdict_number verdict) 0 }
+{
+    matches!(verdict, Ok(Verdict::Accepted(_)))
+}
+
+// Kind 1 beside a good list. Where the request is accepted and the rows fit, nothing refuses any more.
 fn write_beside(
     c: &mut [u8],
     frame: Frame,
@@ -34,12 +41,8 @@ fn write_beside(
     ensures r_after { r.new ≡ reply_beside c.old l.old q.now r.old }
 {
     let verdict = verdict_of(c, frame, q, t, r.len());
-    let number = verdict.number;
-    if number != 0 {
-        return settle(c, frame, q, t, verdict, r);
-    }
-    if !write_list(l, q, t, frame.size) {
-        return answer(13, 0);
+    if accepted(verdict) && !write_list(l, q, t, frame.size) {
+        return Answer::refused(Refusal::TooManyStretches);
     }
     settle(c, frame, q, t, verdict, r)
 }
@@ -55,10 +58,10 @@ fn apply_judged(c: &mut [u8], frame: Frame, l: &mut [u8], q: &[u8], r: &mut [u8]
 {
     let to = frame.data_end();
     if !list_ok(l, &c[DATA_AT..to]) {
-        return answer(16, 0);
+        return Answer::refused(Refusal::BadList);
     }
     match requests::forms::form_of(q) {
-        Form::TestWrite(t) => write_beside(c, frame, l, q, t, r),
+        Some(Form::TestWrite(t)) => write_beside(c, frame, l, q, t, r),
         _ => apply_formed(c, frame, q, r),
     }
 }
@@ -71,8 +74,7 @@ pub fn apply(c: &mut [u8], l: &mut [u8], q: &[u8], r: &mut [u8]) -> Answer
     ensures r_after { r.new ≡ reply_beside c.old l.old q.now r.old }
 {
     match format::judging::judge(c) {
-        Judged::BadLength => answer(1, 0),
-        Judged::Malformed => answer(2, 0),
-        Judged::Formed(frame) => apply_judged(c, frame, l, q, r),
+        Ok(frame) => apply_judged(c, frame, l, q, r),
+        Err(flaw) => Answer::refused(Refusal::from(flaw)),
     }
 }

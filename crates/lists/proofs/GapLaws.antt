@@ -9,8 +9,10 @@ use Rattle.stretches.specs.List.{rows_from}
 use Rattle.stretches.specs.Claims.{InPlace, Rising}
 use Rattle.stretches.proofs.ShapeLaws.{rising-joined, none_above}
 use Rattle.lists.specs.declared.rows.Span.{Span}
-use Rattle.lists.specs.Tables.{span_at, Ready, Holds}
-use Rattle.lists.proofs.TableLaws.{row_at, rows_last, between-some, none_left, Pushed}
+use Rattle.lists.specs.declared.rows.Rows.{Rows}
+use Rattle.lists.specs.Spans.{span_at}
+use Rattle.lists.specs.Tables.{rows_of, Pushed, Ready}
+use Rattle.lists.proofs.TableLaws.{row_at, rows_last, between-some, none_left}
 
 -- ---- the gap goes into the last row if that ends at the size, and behind it if not
 before_last : (low : ℕ) (rs : List Stretch) (r : Stretch) (n : ℕ) → Rising low (rs ++ (r ∷ [])) n → low < n
@@ -35,21 +37,21 @@ joined_apart n e low (s ∷ rs) r h t =
     rw (ne_eqb (end_of s) n (λ q. omega arith))
     (ap (λ (l : List Stretch). s ∷ l) (joined_apart n e (suc (end_of s)) rs r h.1 t))
 
-module _ (t : List ℕ) (n size at : ℕ) (d : Ready t n size) (g : size < at) where
-  pub gap_alone : n ≡ 0 → (u : List ℕ) (k : ℕ) → Pushed t n (record { from = size; to = at }) u k
-      → Holds u k (joined size at (rows_from n 0 t))
+module _ (t : Rows) (size at : ℕ) (d : Ready t size) (g : size < at) where
+  pub gap_alone : t.count ≡ 0 → (u : Rows) → Pushed t (record { from = size; to = at }) u
+      → rows_of u ≡ joined size at (rows_of t)
   unfolding joined rows_from
-  gap_alone z u k p = record { long = p.long ∙ d.long; rows = p.rows ∙ rw (z, between-some size at g) }
+  gap_alone z u p = p.rows ∙ rw (z, between-some size at g)
 
-  module _ (i : ℕ) (last : Span) (e : suc i ≡ n) (is : last ≡ span_at (8 * i) t) where
+  module _ (i : ℕ) (last : Span) (e : suc i ≡ t.count) (is : last ≡ span_at (8 * i) t.bytes) where
     r : Stretch
-    r = row_at i t
+    r = row_at i t.bytes
 
-    split : rows_from n 0 t ≡ rows_from i 0 t ++ (r ∷ [])
+    split : rows_of t ≡ rows_from i 0 t.bytes ++ (r ∷ [])
     unfolding rows_from r
-    split = ap (λ (k : ℕ). rows_from k 0 t) (sym e) ∙ rows_last i t
+    split = ap (λ (k : ℕ). rows_from k 0 t.bytes) (sym e) ∙ rows_last i t.bytes
 
-    rises : Rising 0 (rows_from i 0 t ++ (r ∷ [])) size
+    rises : Rising 0 (rows_from i 0 t.bytes ++ (r ∷ [])) size
     rises = rw split at d.rises
 
     from_is : last.from ≡ r.start
@@ -60,25 +62,19 @@ module _ (t : List ℕ) (n size at : ℕ) (d : Ready t n size) (g : size < at) w
     unfolding r
     to_is = ap (λ (s : Span). s.to) is
 
-    pub gap_touch : last.to ≡ size → (u : List ℕ) (k : ℕ) → Pushed t i (record { from = last.from; to = at }) u k
-        → Holds u k (joined size at (rows_from n 0 t))
-    gap_touch h u k p =
+    pub gap_touch : last.to ≡ size → (u : Rows)
+        → Pushed (record { bytes = t.bytes; count = i }) (record { from = last.from; to = at }) u
+        → rows_of u ≡ joined size at (rows_of t)
+    gap_touch h u p =
         let q : last.from < at = omega (arith, from_is, to_is) in
-        record {
-          long = p.long ∙ d.long;
-          rows =
-              p.rows ∙ rw (between-some last.from at q, from_is, split)
-              (sym (joined-touch size at 0 (rows_from i 0 t) r rises (sym to_is ∙ h)));
-        }
+        p.rows ∙ rw (between-some last.from at q, from_is, split)
+        (sym (joined-touch size at 0 (rows_from i 0 t.bytes) r rises (sym to_is ∙ h)))
 
-    pub gap_apart : (last.to ≡ size → ⊥) → (u : List ℕ) (k : ℕ) → Pushed t n (record { from = size; to = at }) u k
-        → Holds u k (joined size at (rows_from n 0 t))
-    gap_apart h u k p = record {
-      long = p.long ∙ d.long;
-      rows =
-          p.rows ∙ rw (between-some size at g, split)
-          (sym (joined_apart size at 0 (rows_from i 0 t) r rises (λ q. h (to_is ∙ q))));
-    }
+    pub gap_apart : (last.to ≡ size → ⊥) → (u : Rows) → Pushed t (record { from = size; to = at }) u
+        → rows_of u ≡ joined size at (rows_of t)
+    gap_apart h u p =
+        p.rows ∙ rw (between-some size at g, split)
+        (sym (joined_apart size at 0 (rows_from i 0 t.bytes) r rises (λ q. h (to_is ∙ q))))
 
 -- ---- rows that end before a position: all is below it, nothing above
 below_all : (m low : ℕ) (rs : List Stretch) (n : ℕ) → Rising low rs n → n ≤ m → below m rs ≡ rs

@@ -18,27 +18,10 @@ use Rattle.stretches.specs.Stretches.{Stretch, stretch, rising}
 use Rattle.stretches.specs.List.{list_length, row_limit, rows_at, row_size, row_count, rows_from, stretches_of}
 use Rattle.stretches.specs.List.{zero_in, list_ok}
 use Rattle.lists.specs.declared.rows.Span.{Span}
-use Rattle.lists.specs.Tables.{span_at, span_ok}
+use Rattle.lists.specs.Spans.{span_at, span_ok}
 
 -- ---- a row judged
 module _ (low : ℕ) (s : Span) (d : List ℕ) where
-  pub span_low : s.from < low → span_ok low s d ≡ false
-  unfolding span_ok
-  span_low h = rw (lt-leb low s.from h)
-
-  pub span_empty : low ≤ s.from → s.to ≤ s.from → span_ok low s d ≡ false
-  unfolding span_ok
-  span_empty h g = rw (le-leb low s.from h, le-ltb s.from s.to g)
-
-  pub span_out : low ≤ s.from → s.from < s.to → length d < s.to → span_ok low s d ≡ false
-  unfolding span_ok
-  span_out h g k = rw (le-leb low s.from h, lt-ltb s.from s.to g, lt-leb s.to (length d) k)
-
-  pub span_rest : low ≤ s.from → s.from < s.to → s.to ≤ length d →
-      span_ok low s d ≡ all_zero (take (s.to - s.from) (drop s.from d))
-  unfolding span_ok
-  span_rest h g k = rw (le-leb low s.from h, lt-ltb s.from s.to g, le-leb s.to (length d) k)
-
   pub span_inside : span_ok low s d ≡ true → s.to ≤ length d
   unfolding span_ok
   span_inside e =

@@ -1,25 +1,24 @@
 -- Rows of a table when bytes are put into it, and when a span is pushed as a row. Assumes nothing.
 use mathlib.Core.Path.{◌≡◌, refl, sym, ap, ap₂, ◌∙◌}
-use mathlib.Core.Bool.{Bool, true, false, cond}
 use mathlib.Core.List.{List, [], ◌∷◌, ◌++◌, append_assoc, append-nil}
 use Prim.Native.Nat.{ℕ, zero, suc, ◌+◌, ◌*◌, ◌-◌, ◌≤◌, ◌<◌}
 use native.Mathlib.Omega.{arith}
 use lib.ListN.{length, take, drop, length-append}
 use lib.Seq.{take-append-le, take-take, length-take-le, drop_at}
-use lib.Dec.{ltb}
-use borrow.Author.Tests.{ltb-true, ltb-false, lt-ltb, le-ltb}
+use borrow.Author.Tests.{lt-ltb, le-ltb}
 use Rattle.octets.specs.Facts.{Fits32}
 use Rattle.octets.specs.Moves.{put}
 use Rattle.octets.specs.Numbers.{number, number_at, digits}
 use Rattle.octets.specs.Strings.{join}
 use Rattle.octets.proofs.ListLaws.{drop-take}
-use Rattle.octets.proofs.MoveLaws.{put-length, put-put, put-beyond}
+use Rattle.octets.proofs.MoveLaws.{put-put, put-beyond}
 use Rattle.octets.proofs.NumberLaws.{length_digits}
 use Rattle.stretches.specs.Stretches.{Stretch, stretch, between}
 use Rattle.stretches.specs.List.{rows_from, row_bytes}
 use Rattle.stretches.proofs.ByteLaws.{Small, rows_back}
 use Rattle.lists.specs.declared.rows.Span.{Span}
-use Rattle.lists.specs.Tables.{stretch_of, pushed, pushed_count, Holds}
+use Rattle.lists.specs.declared.rows.Rows.{Rows}
+use Rattle.lists.specs.Tables.{rows_of, Pushed}
 
 -- ---- bytes put elsewhere leave a number and rows alone
 pub number_before : (n p at : ℕ) (bs t : List ℕ) → at ≤ length t → p + n ≤ at
@@ -117,70 +116,35 @@ pub none_left : {A : Type 0} (l : List A) → length l ≡ 0 → l ≡ []
 none_left [] h = refl
 none_left (x ∷ l) h = absurd (omega arith)
 
--- ---- a span pushed as a row: what the code stores
-pub push_none : (p i : ℕ) (s : Span) (t : List ℕ) → s.to ≤ s.from → (i ≡ pushed_count i s) × (t ≡ pushed p s t)
-unfolding pushed pushed_count
-push_none p i s t h = rw (le-ltb s.from s.to h) (refl, refl)
+-- ---- a span pushed: none, or its row by two stores
+pub push_none : (t : Rows) (s : Span) → s.to ≤ s.from → Pushed t s t
+push_none t s h = record {
+  most = omega arith;
+  rows = rw (between_none s.from s.to h) (sym (append-nil (rows_of t)));
+  rest = λ k p q. refl;
+}
 
-pub push_some : (p i : ℕ) (s : Span) (t : List ℕ) → s.from < s.to → p ≤ length t
-    → (i + 1 ≡ pushed_count i s)
-    × (put (p + 4) (digits 4 (s.to - s.from)) (put p (digits 4 s.from) t) ≡ pushed p s t)
-unfolding pushed pushed_count row_bytes
-push_some p i s t h l =
-    let e : p + 4 ≡ p + length (digits 4 s.from) = rw length_digits in
-    rw (lt-ltb s.from s.to h)
-    (refl, put-put p (p + 4) (digits 4 s.from) (digits 4 (s.to - s.from)) t l e)
-
--- A span pushed as row i of t has made u, with n rows: the rows before it, then what the span names. The rows behind it
--- are as they were.
-pub record Pushed (t : List ℕ) (i : ℕ) (s : Span) (u : List ℕ) (n : ℕ) : Type 0 where
-  pub long : length u ≡ length t
-  pub most : n ≤ i + 1
-  pub rows : rows_from n 0 u ≡ rows_from i 0 t ++ between s.from s.to
-  pub rest : (k p : ℕ) → 8 * i + 8 ≤ p → rows_from k p u ≡ rows_from k p t
-
-pushed_is : (t : List ℕ) (i : ℕ) (s : Span) → 8 * i + 8 ≤ length t → Fits32 s.to
-    → Pushed t i s (pushed (8 * i) s t) (pushed_count i s)
-unfolding pushed pushed_count
-pushed_is t i s h f = go (ltb s.from s.to) refl
-  where
-    r : Stretch
-    r = stretch_of s
-
-    lr : length (row_bytes r) ≡ 8
-    lr = length-row r
-
-    go : (b : Bool) → ltb s.from s.to ≡ b
-        → Pushed t i s (cond b (put (8 * i) (row_bytes r) t) t) (cond b (i + 1) i)
-    go true p =
-        let k : s.from < s.to = ltb-true s.from s.to p in
-        let n : i + 1 ≡ suc i = omega arith in
-        let u : List ℕ = put (8 * i) (row_bytes r) t in
-        let new : rows_from 1 (8 * i) u ≡ r ∷ [] =
-        row_back (8 * i) r t (omega arith) (record { start_fits = omega arith; count_fits = omega arith }) in
-        record {
-          long = put-length (8 * i) (row_bytes r) t (omega (arith, lr));
-          most = omega arith;
-          rows =
-              ap (λ (m : ℕ). rows_from m 0 u) n ∙ rows_last i u
-              ∙ ap₂ (λ (x y : List Stretch). x ++ y)
-              (rows_before i 0 (8 * i) (row_bytes r) t (omega arith) (omega arith))
-              (new ∙ sym (between-some s.from s.to k));
-          rest = λ k p q. rows_behind k p (8 * i) (row_bytes r) t (omega arith) (omega (arith, lr));
-        }
-    go false p =
-        let z : between s.from s.to ≡ [] = between_none s.from s.to (ltb-false s.from s.to p) in
-        record {
-          long = refl;
-          most = omega arith;
-          rows = rw z (sym (append-nil (rows_from i 0 t)));
-          rest = λ k p q. refl;
-        }
-
-pub push_is : (t : List ℕ) (i : ℕ) (s : Span) (u : List ℕ) (n : ℕ) → 8 * i + 8 ≤ length t → Fits32 s.to
-    → (n ≡ pushed_count i s) × (u ≡ pushed (8 * i) s t) → Pushed t i s u n
-push_is t i s u n h f e = rw (e.0, e.1) (pushed_is t i s h f)
-
--- A table that holds rows holds them by another name.
-pub holds_too : (t : List ℕ) (n : ℕ) (rs qs : List Stretch) → Holds t n rs → rs ≡ qs → Holds t n qs
-holds_too t n rs qs h e = record { long = h.long; rows = h.rows ∙ e }
+pub push_some : (t : Rows) (s : Span) (a b : List ℕ) → s.from < s.to → Fits32 s.to → 8 * t.count + 8 ≤ length t.bytes
+    → a ≡ put (8 * t.count) (digits 4 s.from) t.bytes → b ≡ put (8 * t.count + 4) (digits 4 (s.to - s.from)) a
+    → Pushed t s (record { bytes = b; count = t.count + 1 })
+unfolding row_bytes
+push_some t s a b h f l is-a is-b =
+    let r : Stretch = stretch s.from (s.to - s.from) in
+    let i : ℕ = t.count in
+    let lr : length (row_bytes r) ≡ 8 = length-row r in
+    let n : i + 1 ≡ suc i = omega arith in
+    let e : 8 * i + 4 ≡ 8 * i + length (digits 4 s.from) = rw length_digits in
+    let u : List ℕ = put (8 * i) (row_bytes r) t.bytes in
+    let is : b ≡ u =
+    is-b ∙ rw is-a (put-put (8 * i) (8 * i + 4) (digits 4 s.from) (digits 4 (s.to - s.from)) t.bytes (omega arith) e) in
+    let new : rows_from 1 (8 * i) u ≡ r ∷ [] =
+    row_back (8 * i) r t.bytes (omega arith) (record { start_fits = omega arith; count_fits = omega arith }) in
+    rw is (record {
+      most = omega arith;
+      rows =
+          ap (λ (m : ℕ). rows_from m 0 u) n ∙ rows_last i u
+          ∙ ap₂ (λ (x y : List Stretch). x ++ y)
+          (rows_before i 0 (8 * i) (row_bytes r) t.bytes (omega arith) (omega arith))
+          (new ∙ sym (between-some s.from s.to h));
+      rest = λ k p q. rows_behind k p (8 * i) (row_bytes r) t.bytes (omega arith) (omega (arith, lr));
+    })

@@ -5,17 +5,18 @@ use mathlib.Core.Bool.{Bool, true, false, cond}
 use mathlib.Core.List.{List, [], ◌∷◌, ◌++◌, append_assoc, append-nil}
 use Prim.Native.Nat.{ℕ, suc, ◌+◌, ◌*◌, ◌-◌, ◌≤◌, ◌<◌, min, max}
 use native.Mathlib.Omega.{arith}
-use lib.ListN.{length}
 use lib.Dec.{ltb}
-use borrow.Author.Tests.{ltb-true, ltb-false, lt-ltb, le-ltb}
+use borrow.Author.Tests.{ltb-true, ltb-false}
 use Rattle.octets.specs.Facts.{Fits32}
 use Rattle.stretches.specs.Stretches.{Stretch, end_of, between, below, above}
 use Rattle.stretches.specs.List.{rows_from}
 use Rattle.stretches.specs.Claims.{InPlace, Rising}
 use Rattle.stretches.proofs.ShapeLaws.{none_below}
 use Rattle.lists.specs.declared.rows.Span.{Span}
-use Rattle.lists.specs.Tables.{table_rows, table_size, span_at, pushed, pushed_count, chosen, Ready, Ordered, Holds}
-use Rattle.lists.proofs.TableLaws.{row_at, rows_next, between_none, none_left, Pushed, push_is}
+use Rattle.lists.specs.declared.rows.Rows.{Rows}
+use Rattle.lists.specs.Spans.{span_at, chosen}
+use Rattle.lists.specs.Tables.{rows_of, Pushed, Ready, Ordered}
+use Rattle.lists.proofs.TableLaws.{row_at, rows_next, between_none, none_left}
 
 -- ---- what the rows name outside of a up to e, row by row
 unfoldable pub outside : ℕ → ℕ → List Stretch → List Stretch
@@ -46,15 +47,7 @@ outside_is a e low (r ∷ rs) n g h = go (ltb a (end_of r)) refl (outside_is a e
         let z : y ≡ [] = between_none (max e r.start) (end_of r) (omega arith) in
         rw (ih, z) (sym (append_assoc x (below a rs) (above e rs)))
 
--- ---- one of two spans: by the test, and what it names where one is empty
-pub chosen_first : (s u : Span) → s.from < s.to → s ≡ chosen s u
-unfolding chosen
-chosen_first s u h = rw (lt-ltb s.from s.to h)
-
-pub chosen_other : (s u : Span) → s.to ≤ s.from → u ≡ chosen s u
-unfolding chosen
-chosen_other s u h = rw (le-ltb s.from s.to h)
-
+-- ---- one of two spans: what it names where one is empty
 chosen_is : (s u : Span) → (u.from < u.to → s.to ≤ s.from)
     → between (chosen s u).from (chosen s u).to ≡ between u.from u.to ++ between s.from s.to
 unfolding chosen
@@ -77,53 +70,50 @@ chosen-within s u m h k = go (ltb s.from s.to)
     go false = k
 
 -- ---- the loop
--- Of n rows i have been read, and `count` are kept. What is left of the last one above e is held back; where that is
--- not nothing, no row to come has anything below a.
-pub record Taking (t₀ : List ℕ) (n a e : ℕ) (t : List ℕ) (i count : ℕ) (held : Span) : Type 0 where
+-- Of the n rows that stood in bs i have been read, and those of t are kept. What is left of the last one above e is held
+-- back; where that is not nothing, no row to come has anything below a.
+pub record Taking (bs : List ℕ) (n a e : ℕ) (t : Rows) (i : ℕ) (held : Span) : Type 0 where
   pub size : ℕ
   pub low : ℕ
   pub fits : Fits32 size
-  pub long : length t ≡ table_size
-  pub read : i ≤ n
-  pub behind : count ≤ i
+  pub behind : t.count ≤ i
   pub inside : held.to ≤ size
   pub apart : held.from < held.to → a ≤ low
-  pub rises : Rising low (rows_from (n - i) (8 * i) t) size
-  pub whole : rows_from count 0 t ++ (between held.from held.to ++ outside a e (rows_from (n - i) (8 * i) t))
-      ≡ below a (rows_from n 0 t₀) ++ above e (rows_from n 0 t₀)
+  pub rises : Rising low (rows_from (n - i) (8 * i) t.bytes) size
+  pub whole : rows_of t ++ (between held.from held.to ++ outside a e (rows_from (n - i) (8 * i) t.bytes))
+      ≡ below a (rows_from n 0 bs) ++ above e (rows_from n 0 bs)
 
-pub taking_start : (t : List ℕ) (n a e : ℕ) → Ordered t n → a ≤ e → Taking t n a e t 0 0 (record { from = 0; to = 0 })
+pub taking_start : (t : Rows) (a e : ℕ) → Ordered t → a ≤ e
+    → Taking t.bytes t.count a e (record { bytes = t.bytes; count = 0 }) 0 (record { from = 0; to = 0 })
 unfolding rows_from
-taking_start t n a e o g =
-    let d : Ready t n o.size = o.ready in
-    let k : n - 0 ≡ n = omega arith in
+taking_start t a e o g =
+    let d : Ready t o.size = o.ready in
+    let k : t.count - 0 ≡ t.count = omega arith in
     let z : between 0 0 ≡ [] = between_none 0 0 (omega arith) in
     record {
       size = o.size;
       low = 0;
       fits = d.fits;
-      long = d.long;
-      read = omega arith;
       behind = omega arith;
       inside = omega arith;
       apart = λ q. absurd (omega arith);
       rises = rw k d.rises;
-      whole = rw (k, z) (outside_is a e 0 (rows_from n 0 t) o.size g d.rises);
+      whole = rw (k, z) (outside_is a e 0 (rows_of t) o.size g d.rises);
     }
 
 -- A turn: row i is read, l is where its part below a ends, v is what is pushed.
-module _ (t₀ : List ℕ) (n a e : ℕ) (t : List ℕ) (i count : ℕ) (held row : Span) (w : Taking t₀ n a e t i count held)
-    (few : n < table_rows) (g : a ≤ e) (more : i < n) (is : row ≡ span_at (8 * i) t) (l : ℕ) (el : l ≡ min a row.to)
-    (v : Span) (ev : v ≡ chosen (record { from = row.from; to = l }) held) where
+module _ (bs : List ℕ) (n a e : ℕ) (t : Rows) (i : ℕ) (held row : Span) (w : Taking bs n a e t i held)
+    (g : a ≤ e) (more : i < n) (is : row ≡ span_at (8 * i) t.bytes) (l : ℕ)
+    (el : l ≡ min a row.to) (v : Span) (ev : v ≡ chosen (record { from = row.from; to = l }) held) where
   r : Stretch
-  r = row_at i t
+  r = row_at i t.bytes
 
   rest : List Stretch
-  rest = rows_from (n - (i + 1)) (8 * (i + 1)) t
+  rest = rows_from (n - (i + 1)) (8 * (i + 1)) t.bytes
 
-  next : rows_from (n - i) (8 * i) t ≡ r ∷ rest
+  next : rows_from (n - i) (8 * i) t.bytes ≡ r ∷ rest
   unfolding r rest
-  next = rows_next n i t more
+  next = rows_next n i t.bytes more
 
   placed : Rising w.low (r ∷ rest) w.size
   placed = rw next at w.rises
@@ -144,28 +134,25 @@ module _ (t₀ : List ℕ) (n a e : ℕ) (t : List ℕ) (i count : ℕ) (held ro
       (chosen-within (record { from = row.from; to = l }) held w.size k w.inside)
 
   -- what `push` asks
-  pub turn_asks : (8 * count + 8 ≤ length t) × (Fits32 count × Fits32 v.to)
-  turn_asks =
-      (omega (arith, w.long, w.behind), (omega (arith, w.behind), omega (arith, turn_inside, w.fits)))
+  pub turn_asks : Fits32 v.to
+  turn_asks = omega (arith, turn_inside, w.fits)
 
-  pub taking_turn : (m : ℕ) → m ≡ max e row.from → (u : List ℕ) (k : ℕ)
-      → (k ≡ pushed_count count v) × (u ≡ pushed (8 * count) v t)
-      → Taking t₀ n a e u (i + 1) k (record { from = m; to = row.to })
+  pub taking_turn : (m : ℕ) → m ≡ max e row.from → (u : Rows) → Pushed t v u
+      → Taking bs n a e u (i + 1) (record { from = m; to = row.to })
   unfolding outside rest
-  taking_turn m em u k d =
-      let p : Pushed t count v u k = push_is t count v u k turn_asks.0 turn_asks.1.1 d in
+  taking_turn m em u p =
       let f : InPlace w.low r w.size = placed.0 in
-      let same : rows_from (n - (i + 1)) (8 * (i + 1)) u ≡ rest =
+      let same : rows_from (n - (i + 1)) (8 * (i + 1)) u.bytes ≡ rest =
       p.rest (n - (i + 1)) (8 * (i + 1)) (omega (arith, w.behind)) in
-      let b : List Stretch = rows_from count 0 t in
+      let b : List Stretch = rows_of t in
       let h : List Stretch = between held.from held.to in
       let x : List Stretch = between row.from l in
       let o : List Stretch = between m row.to ++ outside a e rest in
       let one : between v.from v.to ≡ h ++ x =
       ap (λ (s : Span). between s.from s.to) ev
       ∙ chosen_is (record { from = row.from; to = l }) held (λ q. omega (arith, w.apart q, f, from_is, el)) in
-      let kept : rows_from k 0 u ≡ b ++ (h ++ x) = p.rows ∙ ap (λ (z : List Stretch). b ++ z) one in
-      let left : x ++ o ≡ outside a e (rows_from (n - i) (8 * i) t) =
+      let kept : rows_of u ≡ b ++ (h ++ x) = p.rows ∙ ap (λ (z : List Stretch). b ++ z) one in
+      let left : x ++ o ≡ outside a e (rows_from (n - i) (8 * i) t.bytes) =
       ap₂ (λ (z y : List Stretch). z ++ (y ++ outside a e rest)) (ap₂ between from_is (el ∙ ap (min a) to_is))
       (ap₂ between (em ∙ ap (max e) from_is) to_is)
       ∙ sym (ap (outside a e) next) in
@@ -173,8 +160,6 @@ module _ (t₀ : List ℕ) (n a e : ℕ) (t : List ℕ) (i count : ℕ) (held ro
         size = w.size;
         low = suc (end_of r);
         fits = w.fits;
-        long = p.long ∙ w.long;
-        read = omega arith;
         behind = omega (arith, p.most, w.behind);
         inside = omega (arith, f, to_is);
         apart = λ q. omega (arith, q, to_is);
@@ -187,18 +172,11 @@ module _ (t₀ : List ℕ) (n a e : ℕ) (t : List ℕ) (i count : ℕ) (held ro
       }
 
 -- the end: all rows have been read, and what is held back is pushed
-pub taking_end : (t₀ : List ℕ) (n a e : ℕ) (t : List ℕ) (i count : ℕ) (held : Span) → Taking t₀ n a e t i count held
-    → n ≤ i → n < table_rows → (u : List ℕ) (k : ℕ) → (k ≡ pushed_count count held) × (u ≡ pushed (8 * count) held t)
-    → Holds u k (below a (rows_from n 0 t₀) ++ above e (rows_from n 0 t₀))
+pub taking_end : (bs : List ℕ) (n a e : ℕ) (t : Rows) (i : ℕ) (held : Span) → Taking bs n a e t i held → n ≤ i
+    → (u : Rows) → Pushed t held u → rows_of u ≡ below a (rows_from n 0 bs) ++ above e (rows_from n 0 bs)
 unfolding outside rows_from
-taking_end t₀ n a e t i count held w h few u k d =
-    let p : Pushed t count held u k =
-    push_is t count held u k (omega (arith, w.long, w.behind, w.read)) (omega (arith, w.inside, w.fits)) d in
+taking_end bs n a e t i held w h u p =
     let z : n - i ≡ 0 = omega arith in
     let b : List Stretch = between held.from held.to in
-    record {
-      long = p.long ∙ w.long;
-      rows =
-          p.rows ∙ ap (λ (v : List Stretch). rows_from count 0 t ++ v) (sym (append-nil b)
-          ∙ ap (λ (j : ℕ). b ++ outside a e (rows_from j (8 * i) t)) (sym z)) ∙ w.whole;
-    }
+    p.rows ∙ ap (λ (v : List Stretch). rows_of t ++ v) (sym (append-nil b)
+    ∙ ap (λ (j : ℕ). b ++ outside a e (rows_from j (8 * i) t.bytes)) (sym z)) ∙ w.whole

@@ -1,4 +1,4 @@
-// The never-written list in code: judged where it lies, its rows in a lent table while a request is judged, written back.
+// The never-written list in code: judged where it lies, its rows in memory while a request is judged, written back.
 #![tactic(auto)]
 
 pub mod list;

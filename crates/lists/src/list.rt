@@ -1,10 +1,9 @@
-// The list as bytes: judged where it lies, its rows taken into a table and written back.
+// The list as bytes, judged where it lies.
 ghost use Rattle.std.specs.Prelude.{◌≡◌, ◌&&◌, ◌+◌, ◌*◌, ◌≤◌, length};
 ghost use Rattle.octets.specs.Lists.{every};
 ghost use Rattle.stretches.specs.Stretches.{rising};
-ghost use Rattle.stretches.specs.List.{list_length, row_limit, row_size, row_count, rows_from, stretches_of};
-ghost use Rattle.stretches.specs.List.{list_bytes, zero_in, list_ok};
-ghost use Rattle.lists.specs.Tables.{table_size, span_ok};
+ghost use Rattle.stretches.specs.List.{row_limit, row_size, rows_from, zero_in, list_ok};
+ghost use Rattle.lists.specs.Spans.{span_ok};
 
 use crate::rows::{ROW_SIZE, Span, row_at};
 
@@ -16,21 +15,14 @@ pub const ROW_LIMIT: usize = 256;
 pub const ROWS_AT: usize = 4;
 
 // Whether a row is not empty, starts at `low` or above, ends inside the data, and names only zeros.
+#[tactic(auto, unfolding(crate::specs::Spans::span_ok))]
 fn row_ok(row: Span, low: usize, d: &[u8]) -> bool
     ensures { result ≡ span_ok low row d.now }
 {
-    let from = row.from;
-    let to = row.to;
-    if from < low {
-        return false;
-    }
-    if to <= from {
-        return false;
-    }
-    if d.len() < to {
-        return false;
-    }
-    octets::strings::all_zero(&d[from..to])
+    low <= row.from
+        && row.from < row.to
+        && row.to <= d.len()
+        && octets::strings::all_zero(&d[row.from..row.to])
 }
 
 // Whether the n rows of a table are in order, apart, inside the data, and name only zeros.
@@ -39,15 +31,13 @@ fn rows_ok(t: &[u8], n: usize, d: &[u8]) -> bool
     ensures { result ≡ (rising 0 (rows_from n 0 t.now) (length d.now)
         && every (zero_in d.now) (rows_from n 0 t.now)) }
 {
-    let mut i = 0;
     let mut low = 0;
-    while i < n {
+    for i in 0..n {
         let row = row_at(t, i);
         if !row_ok(row, low, d) {
             return false;
         }
         low = row.to + 1;
-        i += 1;
     }
     true
 }
@@ -64,31 +54,5 @@ pub fn list_ok(l: &[u8], d: &[u8]) -> bool
         return false;
     }
     let end = ROWS_AT + ROW_SIZE * n;
-    if !octets::strings::all_zero(&l[end..]) {
-        return false;
-    }
-    rows_ok(&l[ROWS_AT..end], n, d)
-}
-
-// The rows of a list, taken into a table; how many there are.
-pub fn load(l: &[u8], t: &mut [u8]) -> usize
-    requires { (length l.now ≡ list_length) × ((row_count l.now ≤ row_limit) × (length t.old ≡ table_size)) }
-    ensures value { result ≡ row_count l.now }
-    ensures t_after { rows_from result 0 t.new ≡ stretches_of l.now }
-    ensures t_len { length t.new ≡ table_size }
-{
-    let n = octets::numbers::u32_at(l, 0) as usize;
-    octets::moves::copy_part(t, 0, &l[ROWS_AT..]);
-    n
-}
-
-// The n rows of a table as a list.
-pub fn store(l: &mut [u8], t: &[u8], n: usize)
-    requires { (length l.old ≡ list_length) × ((n ≤ row_limit) × (length t.now ≡ table_size)) }
-    ensures { l.new ≡ list_bytes (rows_from n 0 t.now) }
-{
-    let used = ROW_SIZE * n;
-    octets::numbers::put_u32(l, 0, n as u32);
-    octets::moves::copy_part(l, ROWS_AT, &t[0..used]);
-    octets::moves::clear_part(l, ROWS_AT + used, LIST_LENGTH);
+    octets::strings::all_zero(&l[end..]) && rows_ok(&l[ROWS_AT..end], n, d)
 }

@@ -1,11 +1,11 @@
-// Rows in a lent table, one behind the other from its start, as in a list: what a write and a cut make of them.
+// The rows of a list in memory while a request is judged: what a write and a cut make of them.
 ghost use Rattle.std.specs.Prelude.{◌≡◌, ◌++◌, ◌+◌, ◌*◌, ◌≤◌, ◌<◌, length};
 ghost use Rattle.octets.specs.Facts.{Fits32};
 ghost use Rattle.stretches.specs.Stretches.{below, above, joined, written_over};
-ghost use Rattle.stretches.specs.List.{row_size, rows_from};
-ghost use Rattle.lists.specs.Tables.{table_rows, span_at, pushed, pushed_count, chosen, Ready, Ordered, Holds};
+ghost use Rattle.stretches.specs.List.{list_length, row_limit, row_size, row_count, stretches_of, list_bytes};
+ghost use Rattle.lists.specs.Spans.{span_at, chosen};
 
-use octets::choices::{greater, lesser};
+use crate::list::{LIST_LENGTH, ROWS_AT};
 
 // A row: start 4, length 4.
 pub const ROW_SIZE: usize = 8;
@@ -34,99 +34,136 @@ pub fn row_at(t: &[u8], i: usize) -> Span
     }
 }
 
-// A span as row i, behind the rows before it, if it is not empty; how many rows there are then.
-fn push(t: &mut [u8], i: usize, s: Span) -> usize
-    requires { (row_size * i + row_size ≤ length t.old) × (Fits32 i × Fits32 s.to) }
-    ensures value { result ≡ pushed_count i s }
-    ensures t_after { t.new ≡ pushed (row_size * i) s t.old }
-{
-    let from = s.from;
-    let to = s.to;
-    if to <= from {
-        return i;
-    }
-    let at = ROW_SIZE * i;
-    octets::numbers::put_u32(t, at, from as u32);
-    octets::numbers::put_u32(t, at + 4, (to - from) as u32);
-    i + 1
-}
-
 // The first of two spans unless it is empty.
+#[tactic(auto, unfolding(crate::specs::Spans::chosen))]
 fn choose(first: Span, other: Span) -> Span
     ensures { result ≡ chosen first other }
 {
-    if first.from < first.to {
-        return first;
-    }
-    other
+    if first.from < first.to { first } else { other }
 }
 
-// The positions from a up to e are taken out of n rows, in one pass; how many rows there are then. A row is split in two
-// at most once, so that each turn puts one row at most, where one has been read: what is left of the row above e is
-// held back for the next turn.
-fn take_out(t: &mut [u8], n: usize, a: usize, e: usize) -> usize
-    requires { Ordered t.old n × ((n < table_rows) × (a ≤ e)) }
-    ensures { Holds t.new result (below a (rows_from n 0 t.old) ++ above e (rows_from n 0 t.old)) }
-{
-    let mut i = 0;
-    let mut count = 0;
-    let mut held = Span { from: 0, to: 0 };
-    while i < n {
-        let row = row_at(t, i);
-        let low = Span {
-            from: row.from,
-            to: lesser(a, row.to),
-        };
-        count = push(t, count, choose(low, held));
-        held = Span {
-            from: greater(e, row.from),
-            to: row.to,
-        };
-        i += 1;
-    }
-    push(t, count, held)
+// Rows, one behind the other at the front of the bytes, as in a list.
+#[derive(Drop)]
+pub struct Rows {
+    pub bytes: [u8; TABLE_SIZE],
+    pub count: usize,
 }
 
-// The gap from a size up to a position behind it is added; a row that ends at the size is made longer.
-fn add_gap(t: &mut [u8], n: usize, size: usize, at: usize) -> usize
-    requires { Ready t.old n size × ((n < table_rows) × ((size < at) × Fits32 at)) }
-    ensures { Holds t.new result (joined size at (rows_from n 0 t.old)) }
-{
-    if 0 < n {
-        let i = n - 1;
-        let last = row_at(t, i);
-        if last.to == size {
-            return push(
-                t,
-                i,
-                Span {
-                    from: last.from,
-                    to: at,
-                },
-            );
+impl Rows {
+    ghost use Rattle.lists.specs.Tables.{table_rows, rows_of, Pushed, Ready, Ordered};
+
+    // The rows of a list.
+    pub fn load(l: &[u8]) -> Rows
+        requires { (length l.now ≡ list_length) × (row_count l.now ≤ row_limit) }
+        ensures { rows_of result ≡ stretches_of l.now }
+    {
+        let mut bytes = [0; TABLE_SIZE];
+        octets::moves::copy_part(&mut bytes, 0, &l[ROWS_AT..]);
+        Rows {
+            bytes,
+            count: octets::numbers::u32_at(l, 0) as usize,
         }
     }
-    push(t, n, Span { from: size, to: at })
-}
 
-// After a write of `count` bytes on data of a size.
-pub fn write_over(t: &mut [u8], n: usize, size: usize, at: usize, count: usize) -> usize
-    requires { Ready t.old n size × ((n < table_rows) × (Fits32 at × Fits32 count)) }
-    ensures { Holds t.new result (written_over size at count (rows_from n 0 t.old)) }
-{
-    if count == 0 {
-        return n;
+    // The rows as a list.
+    #[tactic(auto, using(crate::proofs::StoreLaws::counted))]
+    pub fn store(&self, l: &mut [u8])
+        requires { (length l.old ≡ list_length) × (length (rows_of self.now) ≤ row_limit) }
+        ensures { l.new ≡ list_bytes (rows_of self.now) }
+    {
+        let used = ROW_SIZE * self.count;
+        octets::numbers::put_u32(l, 0, self.count as u32);
+        octets::moves::copy_part(l, ROWS_AT, &self.bytes[..used]);
+        octets::moves::clear_part(l, ROWS_AT + used, LIST_LENGTH);
     }
-    if size < at {
-        return add_gap(t, n, size, at);
-    }
-    take_out(t, n, at, at + count)
-}
 
-// After a cut of data of a size.
-pub fn cut_to(t: &mut [u8], n: usize, size: usize, m: usize) -> usize
-    requires { Ready t.old n size × (n < table_rows) }
-    ensures { Holds t.new result (below m (rows_from n 0 t.old)) }
-{
-    take_out(t, n, m, greater(m, size))
+    // How many there are.
+    #[tactic(auto, using(crate::proofs::StoreLaws::counted))]
+    pub fn len(&self) -> usize
+        ensures { result ≡ length (rows_of self.now) }
+    {
+        self.count
+    }
+
+    // A span as one row more, if it is not empty.
+    fn push(&mut self, s: Span)
+        requires { (self.old.count < table_rows) × Fits32 s.to }
+        ensures { Pushed self.old s self.new }
+    {
+        if s.from < s.to {
+            let at = ROW_SIZE * self.count;
+            octets::numbers::put_u32(&mut self.bytes, at, s.from as u32);
+            octets::numbers::put_u32(&mut self.bytes, at + 4, (s.to - s.from) as u32);
+            self.count += 1;
+        }
+    }
+
+    // The positions from a up to e are taken out, in one pass. A row is split in two at most once, so that each turn puts
+    // one row at most, where one has been read: what is left of the row above e is held back for the next turn.
+    #[tactic(auto, using(crate::proofs::StoreLaws::counted))]
+    fn take_out(&mut self, a: usize, e: usize)
+        requires { Ordered self.old × (a ≤ e) }
+        ensures { rows_of self.new ≡ below a (rows_of self.old) ++ above e (rows_of self.old) }
+    {
+        let n = self.count;
+        self.count = 0;
+        let mut held = Span { from: 0, to: 0 };
+        for i in 0..n {
+            let row = row_at(&self.bytes, i);
+            let low = Span {
+                from: row.from,
+                to: a.min(row.to),
+            };
+            self.push(choose(low, held));
+            held = Span {
+                from: e.max(row.from),
+                to: row.to,
+            };
+        }
+        self.push(held);
+    }
+
+    // The gap from a size up to a position behind it is added; a row that ends at the size is made longer.
+    #[tactic(auto, using(crate::proofs::StoreLaws::counted))]
+    fn add_gap(&mut self, size: usize, at: usize)
+        requires { Ready self.old size × ((size < at) × Fits32 at) }
+        ensures { rows_of self.new ≡ joined size at (rows_of self.old) }
+    {
+        if 0 < self.count {
+            let i = self.count - 1;
+            let last = row_at(&self.bytes, i);
+            if last.to == size {
+                self.count = i;
+                self.push(Span {
+                    from: last.from,
+                    to: at,
+                });
+                return;
+            }
+        }
+        self.push(Span { from: size, to: at });
+    }
+
+    // After a write of `count` bytes on data of a size.
+    pub fn write_over(&mut self, size: usize, at: usize, count: usize)
+        requires { Ready self.old size × (Fits32 at × Fits32 count) }
+        ensures { rows_of self.new ≡ written_over size at count (rows_of self.old) }
+    {
+        if count == 0 {
+            return;
+        }
+        if size < at {
+            self.add_gap(size, at);
+        } else {
+            self.take_out(at, at + count);
+        }
+    }
+
+    // After a cut of data of a size.
+    pub fn cut_to(&mut self, size: usize, m: usize)
+        requires { Ready self.old size }
+        ensures { rows_of self.new ≡ below m (rows_of self.old) }
+    {
+        self.take_out(m, m.max(size));
+    }
 }

@@ -1,4 +1,6 @@
 -- Tests in a row, tests over lists, what holds of each element, parts and positions. Assumes nothing.
+pub use mathlib.Core.Bool.{and_assoc, and-false, and-true}
+pub use Rattle.std.proofs.lemmas.List.{drop-take}
 use mathlib.Core.Path.{◌≡◌, refl, sym, ap, ◌∙◌}
 use mathlib.Core.Bool.{Bool, true, false, cond, ◌&&◌, false≢true, true≢false}
 use mathlib.Core.List.{List, [], ◌∷◌, ◌++◌, map}
@@ -9,7 +11,7 @@ use native.Mathlib.Omega.{arith}
 use lib.Dec.{ltb}
 use lib.ListN.{length, take, drop, get_or, set, replicate, length-take, take-append-drop, get_or-eq_default}
 use lib.ListN.{drop_of_length-le}
-use lib.Seq.{drop-cons, take-nil, take-take, take_all, take_at, drop_at, drop-drop, get_or-append-add}
+use lib.Seq.{drop-cons, take-take, take_all, take_at, drop_at, drop-drop, get_or-append-add}
 use borrow.Author.Tests.{ltb-true, ltb-false}
 use Rattle.octets.specs.Lists.{every, sum, is_some, or_else}
 use Rattle.octets.specs.Facts.{Each}
@@ -23,18 +25,6 @@ both false b e = absurd (false≢true e)
 pub by_refuting : (t : Bool) → (t ≡ true → ⊥) → t ≡ false
 by_refuting true h = absurd (h refl)
 by_refuting false h = refl
-
-pub and_assoc : (a b d : Bool) → ((a && b) && d) ≡ (a && (b && d))
-and_assoc true b d = refl
-and_assoc false b d = refl
-
-pub and-false : (b : Bool) → (b && false) ≡ false
-and-false true = refl
-and-false false = refl
-
-pub and-true : (b : Bool) → (b && true) ≡ b
-and-true true = refl
-and-true false = refl
 
 -- the same by `cond`, which the checker keeps apart
 pub cond-false : (a b : Bool) → cond a b false ≡ (a && b)
@@ -107,11 +97,6 @@ unfolding sum
 sum-none ns i h = rw (drop_of_length-le ns {i = i} h)
 
 -- ---- parts
-pub drop-take : (f n : ℕ) (l : List ℕ) → drop f (take (f + n) l) ≡ take n (drop f l)
-drop-take zero n l = let e : 0 + n ≡ n = omega arith in rw e
-drop-take (suc f) n [] = let e : suc f + n ≡ suc (f + n) = omega arith in rw e (sym (take-nil n))
-drop-take (suc f) n (x ∷ l) = let e : suc f + n ≡ suc (f + n) = omega arith in rw e (drop-take f n l)
-
 -- m elements at f of the n elements at p
 pub part_part : (p n f m : ℕ) (c : List ℕ) → f + m ≤ n → take m (drop f (take n (drop p c))) ≡ take m (drop (p + f) c)
 part_part p n f m c h =

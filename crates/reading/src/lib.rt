@@ -7,9 +7,11 @@ ghost use Rattle.rules.specs.Outcomes.{answered, reply_after};
 ghost use Rattle.requests.specs.Forms.{ReadRequest};
 
 use format::layout::{DATA_AT, Frame};
+use replies::pieces::measure;
+use replies::reply::write_reply;
 use requests::forms::Table;
 use rules::Answer;
-use rules::answers::answer;
+use rules::outcomes::Refusal;
 
 pub fn read(c: &[u8], frame: Frame, q: &[u8], t: Table, r: &mut [u8]) -> Answer
     requires { Known c.now frame × ReadRequest q.now t }
@@ -18,14 +20,12 @@ pub fn read(c: &[u8], frame: Frame, q: &[u8], t: Table, r: &mut [u8]) -> Answer
 {
     let e = frame.data_end();
     let d = &c[DATA_AT..e];
-    let asked = replies::pieces::measure(d, q, t);
-    let length = asked.length;
-    if !asked.resolves {
-        return answer(4, 0);
-    }
+    let Some(length) = measure(d, q, t) else {
+        return Answer::refused(Refusal::BeforeStart);
+    };
     if r.len() < length {
-        return answer(7, 0);
+        return Answer::refused(Refusal::ShortReply);
     }
-    replies::reply::write_reply(d, q, t, r);
-    answer(0, length)
+    write_reply(d, q, t, r);
+    Answer::done(length)
 }

@@ -9,74 +9,65 @@ mod reporting;
 mod running;
 mod showing;
 
+ghost use Rattle.std.specs.Prelude.{◌≤◌};
 ghost use Rattle.std.specs.Counts.{IsPrefixLen};
 
-use running::Ran;
+use reporting::{FileFault, Stop};
 use std::env::{Env, FillError};
 use std::fs::{File, Files};
 use std::io;
 use std::io::{Read, Write};
 
-// A read that fails counts as one of no byte.
-fn read_some<R: Read>(file: &mut R, buf: &mut [u8]) -> usize
-    ensures { IsPrefixLen result buf.new }
-{
-    match file.read(buf) {
-        Ok(n) => n,
-        Err(_) => 0,
-    }
-}
+// The longest file, and a byte more by which a longer one is told.
+const FILE_ROOM: usize = 65536;
+
+const NAME_ROOM: usize = 4096;
 
 // Reads until the buffer is full, the input ends or a read fails, and answers how many bytes that were.
 fn read_full<R: Read>(file: &mut R, buf: &mut [u8]) -> usize
     ensures { IsPrefixLen result buf.new }
 {
     let mut done = 0;
+    // A turn for each read, and a read may give any number of bytes.
     while done < buf.len() {
-        let n = read_some(file, &mut buf[done..]);
-        if n == 0 {
-            return done;
+        match file.read(&mut buf[done..]) {
+            Ok(n) if n > 0 => done += n,
+            _ => break,
         }
-        done += n;
     }
     done
 }
 
 // `read_full` stops at a read that fails as it does at the end; one read more tells which it was.
 fn at_end<R: Read>(file: &mut R) -> bool {
-    let mut one = [0u8; 1];
-    match file.read(&mut one) {
-        Ok(n) => n == 0,
-        Err(_) => false,
-    }
+    matches!(file.read(&mut [0; 1]), Ok(0))
 }
 
-// A file that fills the buffer may be longer, so it is refused.
+// How many requests the file had; none where the run has stopped, with its message. A file that fills the buffer may be
+// longer, so it is refused.
 fn run_open<R: Read, W: Write, E: Write>(
     out: &mut W,
     err: &mut E,
     name: &[u8],
     file: &mut R,
-) -> io::Result<Ran> {
-    let mut text = [0u8; 65536];
+) -> io::Result<Option<u64>> {
+    let mut text = [0; FILE_ROOM];
     let n = read_full(file, &mut text);
     if n == text.len() {
-        reporting::stop_at_file(out, err, name, b"the file is longer than 65,535 bytes")?;
-        return Ok(Ran::Stopped);
+        Stop::File(name, FileFault::TooLong).report(out, err)?;
+        return Ok(None);
     }
     if !at_end(file) {
-        reporting::stop_at_file(out, err, name, b"the file cannot be read")?;
-        return Ok(Ran::Stopped);
+        Stop::File(name, FileFault::NotRead).report(out, err)?;
+        return Ok(None);
     }
     running::run_text(out, err, name, &text[..n])
 }
 
 // A file is opened by a name in UTF-8 alone.
 fn open<S: Files>(rt: &S, name: &[u8]) -> Option<S::File> {
-    match str::from_utf8(name) {
-        Ok(path) => File::open(rt, path).ok(),
-        Err(_) => None,
-    }
+    let path = str::from_utf8(name).ok()?;
+    File::open(rt, path).ok()
 }
 
 fn run_named<S: Files, W: Write, E: Write>(
@@ -84,17 +75,13 @@ fn run_named<S: Files, W: Write, E: Write>(
     out: &mut W,
     err: &mut E,
     name: &[u8],
-) -> io::Result<Ran> {
-    match open(rt, name) {
-        None => {
-            reporting::stop_at_file(out, err, name, b"the file cannot be opened")?;
-            Ok(Ran::Stopped)
-        }
-        Some(mut file) => {
-            showing::file(out, name)?;
-            run_open(out, err, name, &mut file)
-        }
-    }
+) -> io::Result<Option<u64>> {
+    let Some(mut file) = open(rt, name) else {
+        Stop::File(name, FileFault::NotOpened).report(out, err)?;
+        return Ok(None);
+    };
+    showing::file(out, name)?;
+    run_open(out, err, name, &mut file)
 }
 
 fn run_argument<S: Env + Files, W: Write, E: Write>(
@@ -102,56 +89,45 @@ fn run_argument<S: Env + Files, W: Write, E: Write>(
     out: &mut W,
     err: &mut E,
     i: usize,
-) -> io::Result<Ran> {
-    let mut name = [0u8; 4096];
-    let n = match rt.arg(i, &mut name) {
-        Ok(n) => n,
-        Err(_) => 0,
-    };
-    if n == 0 {
-        reporting::stop_at_argument(out, err, i as u64)?;
-        return Ok(Ran::Stopped);
+) -> io::Result<Option<u64>> {
+    let mut name = [0; NAME_ROOM];
+    match rt.arg(i, &mut name) {
+        Ok(n) if n > 0 => run_named(rt, out, err, &name[..n]),
+        _ => {
+            Stop::Argument(i).report(out, err)?;
+            Ok(None)
+        }
     }
-    run_named(rt, out, err, &name[..n])
 }
 
-// The count of requests wraps at 2^64, which no run reaches.
+// All arguments but the first of n, which is the program's name. The count of requests wraps at 2^64, which no run
+// reaches.
 fn run_arguments<S: Env + Files, W: Write, E: Write>(
     rt: &S,
     out: &mut W,
     err: &mut E,
     n: usize,
-) -> io::Result<()> {
-    let mut requests = 0;
-    let mut i = 1;
-    while i < n {
-        match run_argument(rt, out, err, i)? {
-            Ran::Done(more) => {
-                requests = std::num::wrapping_add_u64(requests, more);
-            }
-            Ran::Stopped => {
-                return Ok(());
-            }
-        }
-        i += 1;
+) -> io::Result<()>
+    requires { 1 ≤ n }
+{
+    let mut requests = 0u64;
+    for i in 1..n {
+        let Some(more) = run_argument(rt, out, err, i)? else {
+            return Ok(());
+        };
+        requests = requests.wrapping_add(more);
     }
-    reporting::as_expected(out, (i - 1) as u64, requests)
+    reporting::as_expected(out, (n - 1) as u64, requests)
 }
 
 // How many arguments there are, with the program's name; a buffer of no byte tells whether there is one.
 fn arg_count<S: Env>(rt: &S) -> usize {
-    let mut n = 0;
-    while n < usize::MAX {
-        match rt.arg(n, &mut []) {
-            Err(FillError::NotPresent) => {
-                return n;
-            }
-            _ => {
-                n += 1;
-            }
+    for n in 0..usize::MAX {
+        if matches!(rt.arg(n, &mut []), Err(FillError::NotPresent)) {
+            return n;
         }
     }
-    n
+    usize::MAX
 }
 
 fn main(rt: HostRuntime) -> io::Result<()> {

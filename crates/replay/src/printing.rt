@@ -1,32 +1,51 @@
-// Text and numbers on an output, which is standard output or standard error.
-use std::io;
-use std::io::Write;
+// Bytes and positions as text.
+use std::fmt;
 
-pub(crate) fn text<W: Write>(out: &mut W, s: &[u8]) -> io::Result<()> {
-    out.write_all(s)
+// Text that comes from outside: a dot stands for each byte that is no printable ASCII, so that neither a line's end nor
+// an escape sequence gets out.
+#[derive(Clone, Copy)]
+pub(crate) struct Ascii<'a>(pub(crate) &'a [u8]);
+
+impl fmt::Display for Ascii<'_> {
+    fn fmt<W: fmt::Write>(&self, f: &mut fmt::Formatter<W>) -> fmt::Result {
+        for &byte in self.0 {
+            let shown = match byte {
+                b' '..=b'~' => char::from(byte),
+                _ => '.',
+            };
+            write!(f, "{shown}")?;
+        }
+        Ok(())
+    }
 }
 
-pub(crate) fn number<W: Write>(out: &mut W, n: u64) -> io::Result<()> {
-    write!(out, "{n}")
+// Bytes as pairs of hexadecimal digits.
+#[derive(Clone, Copy)]
+pub(crate) struct Hex<'a>(pub(crate) &'a [u8]);
+
+impl fmt::Display for Hex<'_> {
+    fn fmt<W: fmt::Write>(&self, f: &mut fmt::Formatter<W>) -> fmt::Result {
+        for byte in self.0 {
+            write!(f, "{byte:02X}")?;
+        }
+        Ok(())
+    }
 }
 
-fn printable(b: u8) -> u8 {
-    if b < 32 {
-        return 46;
-    }
-    if 126 < b {
-        return 46;
-    }
-    b
+// A run of positions, by its first and its last.
+#[derive(Clone, Copy)]
+pub(crate) struct Run {
+    pub(crate) first: usize,
+    pub(crate) last: usize,
 }
 
-// A dot stands for each byte that is no printable ASCII, so that neither a line's end nor an escape sequence gets out.
-pub(crate) fn ascii<W: Write>(out: &mut W, s: &[u8]) -> io::Result<()> {
-    let mut i = 0;
-    while i < s.len() {
-        let one = [printable(s[i])];
-        text(out, &one)?;
-        i += 1;
+impl fmt::Display for Run {
+    fn fmt<W: fmt::Write>(&self, f: &mut fmt::Formatter<W>) -> fmt::Result {
+        let Run { first, last } = *self;
+        if first < last {
+            write!(f, "{first}-{last}")
+        } else {
+            write!(f, "{first}")
+        }
     }
-    Ok(())
 }

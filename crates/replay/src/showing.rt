@@ -1,276 +1,193 @@
 // The transcript, on an output.
 ghost use Rattle.std.specs.Prelude.{◌+◌, ◌*◌, ◌<◌, ◌≤◌, length};
-ghost use Rattle.std.specs.Counts.{IsPrefixLen};
 ghost use Rattle.format.specs.Layout.{record_size, lease_limit, data_at, limit};
 ghost use Rattle.format.specs.Judging.{Known};
 ghost use Rattle.requests.specs.Forms.{TableIn};
 
-use crate::{listing, printing};
-use format::judging::Judged;
+use crate::listing;
+use crate::printing::{Ascii, Hex};
+use format::judging::Flaw;
 use format::layout::{EXPIRY_AT, FIXED_PLACES, Frame, LEASES_AT, RECORD_SIZE};
-use octets::choices::lesser;
+use lists::list::LIST_LENGTH;
 use replies::pieces::LENGTH_SIZE;
 use requests::cursors::Cursor;
 use requests::forms::{Form, Table};
-use requests::offsets::resolve;
+use requests::kinds::{Kind, NoKind};
 use rules::Answer;
-use shares::share::MDMF;
-use std::io;
+use rules::outcomes::Refusal;
+use share_format::parts::Part;
+use shares::share::{MDMF, container_part};
 use std::io::Write;
+use std::{fmt, io};
 
 // Longer data and more extra leases are shortened.
 const MOST_BYTES: usize = 128;
 
 const MOST_EXTRAS: usize = 4;
 
-// Above every position in data.
-const MOST_POSITION: usize = 4294967295;
+// How many bytes stand in a row.
+const ROW: usize = 16;
 
-pub(crate) fn write<W: Write>(out: &mut W, text: &[u8]) -> io::Result<()> {
-    printing::text(out, text)
-}
-
-fn number<W: Write>(out: &mut W, n: u64) -> io::Result<()> {
-    printing::number(out, n)
-}
-
-fn ascii<W: Write>(out: &mut W, s: &[u8]) -> io::Result<()> {
-    printing::ascii(out, s)
-}
+// A list that names nothing.
+const NO_ROWS: [u8; LIST_LENGTH] = [0; LIST_LENGTH];
 
 // The head of a file's transcript.
 pub(crate) fn file<W: Write>(out: &mut W, name: &[u8]) -> io::Result<()> {
-    write(out, b"== ")?;
-    ascii(out, name)?;
-    write(out, b"\n")
+    writeln!(out, "== {}", Ascii(name))
 }
 
 // What a file says stands behind a space, and so is never taken for the verdict.
 pub(crate) fn said<W: Write>(out: &mut W, s: &[u8]) -> io::Result<()> {
-    write(out, b" ")?;
-    ascii(out, s)?;
-    write(out, b"\n")
+    writeln!(out, " {}", Ascii(s))
 }
 
-// n, or all of s where that is less.
-pub(crate) fn clip(n: usize, s: &[u8]) -> usize
-    ensures { IsPrefixLen result s.now }
-{
-    lesser(n, s.len())
-}
-
-// n, or all of s or of t where that is less.
-pub(crate) fn clip_both(n: usize, s: &[u8], t: &[u8]) -> usize
-    ensures { IsPrefixLen result s.now × IsPrefixLen result t.now }
-{
-    lesser(clip(n, s), t.len())
-}
-
-// A number in five columns.
-fn column<W: Write>(out: &mut W, n: u64) -> io::Result<()> {
-    if n < 10000 {
-        write(out, b" ")?;
+// At most 16 bytes that stand in the data from a position on, behind the place of the first among those that are shown;
+// `--` where the list names one, and blanks where there is none, so that what follows stands in one column.
+fn row<W: Write>(
+    out: &mut W,
+    at: usize,
+    bytes: &[u8],
+    list: &[u8; LIST_LENGTH],
+    from: usize,
+) -> io::Result<()> {
+    write!(out, "      {at:>5}  ")?;
+    for (i, byte) in bytes.iter().enumerate() {
+        if listing::named(list, from.saturating_add(i)) {
+            write!(out, "-- ")?;
+        } else {
+            write!(out, "{byte:02X} ")?;
+        }
     }
-    if n < 1000 {
-        write(out, b" ")?;
+    for _ in bytes.len()..ROW {
+        write!(out, "   ")?;
     }
-    if n < 100 {
-        write(out, b" ")?;
-    }
-    if n < 10 {
-        write(out, b" ")?;
-    }
-    number(out, n)
+    writeln!(out, " |{}|", Ascii(bytes))
 }
 
-fn glyph(d: u8) -> u8
-    requires { d < 16 }
-{
-    if d < 10 { 48 + d } else { 55 + d }
-}
-
-fn hex<W: Write>(out: &mut W, b: u8) -> io::Result<()> {
-    let two = [glyph(b / 16), glyph(b % 16)];
-    write(out, &two)
-}
-
-fn hex_all<W: Write>(out: &mut W, s: &[u8]) -> io::Result<()> {
-    let mut i = 0;
-    while i < s.len() {
-        hex(out, s[i])?;
-        i += 1;
+// Bytes that stand in the data from a position on, beside the list.
+fn bytes<W: Write>(
+    out: &mut W,
+    bytes: &[u8],
+    list: &[u8; LIST_LENGTH],
+    from: usize,
+) -> io::Result<()> {
+    let shown = bytes.len().min(MOST_BYTES);
+    let mut at: usize = 0;
+    for part in bytes[..shown].chunks(ROW) {
+        row(out, at, part, list, from.saturating_add(at))?;
+        at = at.saturating_add(ROW);
+    }
+    if shown < bytes.len() {
+        let more = bytes.len() - shown;
+        writeln!(out, "             ... and {more} bytes more")?;
     }
     Ok(())
 }
 
-// The position i places behind another. Both are far below the bound, which spares the proof of it.
-fn behind(position: usize, i: usize) -> usize {
-    lesser(position, MOST_POSITION) + lesser(i, MOST_POSITION)
-}
+// An outcome by its number, which is what the answer has for C, and in words if it has any.
+#[derive(Clone, Copy)]
+struct Outcome(u32);
 
-// Byte i of those that stand in the data from a position on; `--` where the list names it, blanks where there is none.
-fn cell<W: Write>(out: &mut W, s: &[u8], i: usize, l: &[u8], from: usize) -> io::Result<()> {
-    if s.len() <= i {
-        return write(out, b"   ");
-    }
-    if listing::named(l, behind(from, i)) {
-        return write(out, b"-- ");
-    }
-    hex(out, s[i])?;
-    write(out, b" ")
-}
-
-// Sixteen cells, so that what follows stands in one column.
-fn hex_cells<W: Write>(out: &mut W, s: &[u8], l: &[u8], from: usize) -> io::Result<()> {
-    let mut i = 0;
-    while i < 16 {
-        cell(out, s, i, l, from)?;
-        i += 1;
-    }
-    Ok(())
-}
-
-// At most 16 bytes behind the place of the first among those that are shown.
-fn row<W: Write>(out: &mut W, at: usize, s: &[u8], l: &[u8], from: usize) -> io::Result<()> {
-    write(out, b"      ")?;
-    column(out, at as u64)?;
-    write(out, b"  ")?;
-    hex_cells(out, s, l, from)?;
-    write(out, b" |")?;
-    ascii(out, s)?;
-    write(out, b"|\n")
-}
-
-// The bytes that stand in the data from a position on, beside the list.
-fn rows<W: Write>(out: &mut W, s: &[u8], l: &[u8], from: usize) -> io::Result<()> {
-    let mut at = 0;
-    while 16 < s.len() - at {
-        let e = at + 16;
-        row(out, at, &s[at..e], l, behind(from, at))?;
-        at = e;
-    }
-    row(out, at, &s[at..], l, behind(from, at))
-}
-
-// Nothing of no bytes.
-fn bytes<W: Write>(out: &mut W, s: &[u8], l: &[u8], from: usize) -> io::Result<()> {
-    if s.len() == 0 {
-        return Ok(());
-    }
-    let n = clip(MOST_BYTES, s);
-    rows(out, &s[..n], l, from)?;
-    if n < s.len() {
-        write(out, b"             ... and ")?;
-        number(out, (s.len() - n) as u64)?;
-        write(out, b" bytes more\n")?;
-    }
-    Ok(())
-}
-
-// The outcome in words.
-fn name<W: Write>(out: &mut W, outcome: u32) -> io::Result<()> {
-    match outcome {
-        0 => write(out, b" 0 done"),
-        1 => write(out, b" 1 bad buffer length"),
-        2 => write(out, b" 2 not well formed"),
-        3 => write(out, b" 3 malformed request or argument"),
-        4 => write(out, b" 4 offset before the start"),
-        5 => write(out, b" 5 wrong write enabler"),
-        7 => write(out, b" 7 reply space too short"),
-        8 => write(out, b" 8 test is false"),
-        9 => write(out, b" 9 no such lease"),
-        10 => write(out, b"10 sixty-four leases already"),
-        11 => write(out, b"11 no room"),
-        12 => write(out, b"12 already a container"),
-        13 => write(out, b"13 too many never-written stretches"),
-        16 => write(out, b"16 the list is not good"),
-        _ => number(out, outcome as u64),
+impl fmt::Display for Outcome {
+    fn fmt<W: fmt::Write>(&self, f: &mut fmt::Formatter<W>) -> fmt::Result {
+        let number = self.0;
+        let words = match number {
+            0 => "done",
+            1 => "bad buffer length",
+            2 => "not well formed",
+            3 => "malformed request or argument",
+            4 => "offset before the start",
+            5 => "wrong write enabler",
+            7 => "reply space too short",
+            8 => "test is false",
+            9 => "no such lease",
+            10 => "sixty-four leases already",
+            11 => "no room",
+            12 => "already a container",
+            13 => "too many never-written stretches",
+            16 => "the list is not good",
+            _ => return write!(f, "{number}"),
+        };
+        write!(f, "{number:>2} {words}")
     }
 }
 
-fn answer<W: Write>(out: &mut W, x: Answer) -> io::Result<()> {
-    name(out, x.number)?;
-    write(out, b", count ")?;
-    number(out, x.count)?;
-    if x.number == 5 {
-        let node = x.node;
-        write(out, b", node ")?;
-        hex_all(out, &node)?;
+// What was done, and what it was answered.
+fn answer<W: Write>(out: &mut W, what: &str, answer: Answer) -> io::Result<()> {
+    let outcome = Outcome(answer.number);
+    let count = answer.count;
+    write!(out, "{what:16}{outcome}, count {count}")?;
+    if answer.number == Refusal::WrongEnabler.number() {
+        let node = answer.node;
+        write!(out, ", node {}", Hex(&node))?;
     }
-    write(out, b"\n")
+    writeln!(out)
 }
 
 pub(crate) fn created<W: Write>(out: &mut W, x: Answer) -> io::Result<()> {
-    write(out, b"create          ")?;
-    answer(out, x)
+    answer(out, "create", x)
 }
 
 // What kind of request it is, by its first byte.
-fn kind<W: Write>(out: &mut W, q: &[u8]) -> io::Result<()> {
-    if q.len() == 0 {
-        return write(out, b"empty request   ");
+fn kind(request: &[u8]) -> &'static str {
+    if request.is_empty() {
+        return "empty request";
     }
-    let kind = Cursor::start().byte(q);
-    let value = kind.value;
-    match value {
-        1 => write(out, b"test-and-write  "),
-        2 => write(out, b"add a lease     "),
-        3 => write(out, b"renew a lease   "),
-        4 => write(out, b"cancel a lease  "),
-        5 => write(out, b"read            "),
-        _ => write(out, b"unknown kind    "),
+    match Kind::try_from(Cursor::start().byte(request).value) {
+        Ok(Kind::TestWrite) => "test-and-write",
+        Ok(Kind::Add) => "add a lease",
+        Ok(Kind::Renew) => "renew a lease",
+        Ok(Kind::Cancel) => "cancel a lease",
+        Ok(Kind::Read) => "read",
+        Err(NoKind) => "unknown kind",
     }
-}
-
-fn piece<W: Write>(out: &mut W, i: usize, s: &[u8], l: &[u8], from: usize) -> io::Result<()> {
-    write(out, b"    piece ")?;
-    number(out, i as u64)?;
-    write(out, b", length ")?;
-    number(out, s.len() as u64)?;
-    write(out, b"\n")?;
-    bytes(out, s, l, from)
 }
 
 // The pieces of a reply: a table of their lengths, then the pieces. Each stands in the data where the entry of the
 // request's table says, on data of a size.
 fn pieces<W: Write>(
     out: &mut W,
-    q: &[u8],
-    t: Table,
+    request: &[u8],
+    table: Table,
     size: usize,
-    r: &[u8],
-    l: &[u8],
+    reply: &[u8],
+    list: &[u8; LIST_LENGTH],
 ) -> io::Result<()>
-    requires { TableIn q.now t }
+    requires { TableIn request.now table }
 {
-    let n = t.count;
-    if r.len() / LENGTH_SIZE < n {
+    let count = table.count;
+    if reply.len() / LENGTH_SIZE < count {
         return Ok(());
     }
-    let mut at = LENGTH_SIZE * n;
-    let mut i = 0;
-    let mut cursor = t.first;
-    while i < n {
-        let k = octets::numbers::u32_at(r, LENGTH_SIZE * i) as usize;
-        if r.len() - at < k {
+    let mut at = LENGTH_SIZE * count;
+    let mut cursor = table.first;
+    for i in 0..count {
+        let len = octets::numbers::u32_at(reply, LENGTH_SIZE * i) as usize;
+        if reply.len() - at < len {
             return Ok(());
         }
-        let e = at + k;
-        let entry = cursor.entry(q, t.stride);
-        let place = resolve(entry.offset, size);
-        i += 1;
-        piece(out, i, &r[at..e], l, place.position)?;
+        let end = at + len;
+        let entry = cursor.entry(request, table.stride);
+        let from = requests::offsets::position(entry.offset, size);
+        writeln!(out, "    piece {}, length {len}", i + 1)?;
+        bytes(out, &reply[at..end], list, from)?;
         cursor = entry.next;
-        at = e;
+        at = end;
     }
     Ok(())
 }
 
 // Test-and-write and read have a reply.
-fn reply<W: Write>(out: &mut W, q: &[u8], size: usize, r: &[u8], l: &[u8]) -> io::Result<()> {
-    match requests::forms::form_of(q) {
-        Form::TestWrite(t) => pieces(out, q, t.tests, size, r, l),
-        Form::Read(t) => pieces(out, q, t, size, r, l),
+fn reply<W: Write>(
+    out: &mut W,
+    request: &[u8],
+    size: usize,
+    reply: &[u8],
+    list: &[u8; LIST_LENGTH],
+) -> io::Result<()> {
+    match requests::forms::form_of(request) {
+        Some(Form::TestWrite(parted)) => pieces(out, request, parted.tests, size, reply, list),
+        Some(Form::Read(table)) => pieces(out, request, table, size, reply, list),
         _ => Ok(()),
     }
 }
@@ -278,50 +195,40 @@ fn reply<W: Write>(out: &mut W, q: &[u8], size: usize, r: &[u8], l: &[u8]) -> io
 // The answer and the reply to a request, beside the size of the data and the list as they were before it.
 pub(crate) fn applied<W: Write>(
     out: &mut W,
-    q: &[u8],
+    request: &[u8],
     x: Answer,
-    r: &[u8],
+    space: &[u8],
     size: usize,
-    l: &[u8],
+    list: &[u8; LIST_LENGTH],
 ) -> io::Result<()> {
-    kind(out, q)?;
-    answer(out, x)?;
-    let n = clip(x.count as usize, r);
-    let number = x.number;
-    match number {
-        0 => reply(out, q, size, &r[..n], l),
-        8 => reply(out, q, size, &r[..n], l),
+    answer(out, kind(request), x)?;
+    let count = (x.count as usize).min(space.len());
+    match x.number {
+        0 | 8 => reply(out, request, size, &space[..count], list),
         _ => Ok(()),
     }
 }
 
 // The lease at p, if the place is not empty.
-fn lease<W: Write>(out: &mut W, c: &[u8], p: usize, place: &[u8], i: usize) -> io::Result<()>
+fn lease<W: Write>(out: &mut W, c: &[u8], p: usize, place: &str, i: usize) -> io::Result<()>
     requires { p + record_size ≤ length c.now }
 {
     let owner = octets::numbers::u32_at(c, p);
     if owner == 0 {
         return Ok(());
     }
-    write(out, b"    lease in ")?;
-    write(out, place)?;
-    number(out, i as u64)?;
-    write(out, b": owner ")?;
-    number(out, owner as u64)?;
-    write(out, b", expiry ")?;
-    number(out, octets::numbers::u32_at(c, p + EXPIRY_AT) as u64)?;
-    write(out, b"\n")
+    let expiry = octets::numbers::u32_at(c, p + EXPIRY_AT);
+    writeln!(
+        out,
+        "    lease in {place} {i}: owner {owner}, expiry {expiry}"
+    )
 }
 
-fn leases<W: Write>(out: &mut W, c: &[u8], from: usize, n: usize, place: &[u8]) -> io::Result<()>
+fn leases<W: Write>(out: &mut W, c: &[u8], from: usize, n: usize, place: &str) -> io::Result<()>
     requires { from + record_size * n ≤ length c.now }
 {
-    let mut i = 0;
-    let mut p = from;
-    while i < n {
-        i += 1;
-        lease(out, c, p, place, i)?;
-        p += RECORD_SIZE;
+    for i in 0..n {
+        lease(out, c, from + RECORD_SIZE * i, place, i + 1)?;
     }
     Ok(())
 }
@@ -330,116 +237,94 @@ fn leases<W: Write>(out: &mut W, c: &[u8], from: usize, n: usize, place: &[u8]) 
 fn sizes<W: Write>(out: &mut W, frame: Frame, n: usize) -> io::Result<()>
     requires { (frame.offset ≤ limit) × (data_at + frame.size ≤ frame.offset) × (frame.extras ≤ lease_limit) }
 {
-    write(out, b"the container   data size ")?;
-    number(out, frame.size as u64)?;
-    write(out, b", slack ")?;
-    number(out, (frame.offset - frame.data_end()) as u64)?;
-    write(out, b", used ")?;
-    number(out, frame.used() as u64)?;
-    write(out, b" of ")?;
-    number(out, n as u64)?;
-    write(out, b" bytes\n")
+    let size = frame.size;
+    let slack = frame.offset - frame.data_end();
+    let used = frame.used();
+    writeln!(
+        out,
+        "the container   data size {size}, slack {slack}, used {used} of {n} bytes"
+    )
 }
 
 // The data beside its list. A list that is not good marks no byte.
-fn data<W: Write>(out: &mut W, d: &[u8], l: &[u8]) -> io::Result<()> {
-    if lists::list::list_ok(l, d) {
-        bytes(out, d, l, 0)?;
-        return listing::show(out, l);
+fn data<W: Write>(out: &mut W, d: &[u8], list: &[u8; LIST_LENGTH]) -> io::Result<()> {
+    if lists::list::list_ok(list, d) {
+        bytes(out, d, list, 0)?;
+        return listing::show(out, list);
     }
-    bytes(out, d, b"", 0)?;
-    write(out, b"    the list is not good\n")
+    bytes(out, d, &NO_ROWS, 0)?;
+    writeln!(out, "    the list is not good")
 }
 
-fn parts<W: Write>(out: &mut W, c: &[u8], frame: Frame, l: &[u8]) -> io::Result<()>
+fn parts<W: Write>(out: &mut W, c: &[u8], frame: Frame, list: &[u8; LIST_LENGTH]) -> io::Result<()>
     requires { Known c.now frame }
 {
     let extras = frame.extras;
     sizes(out, frame, c.len())?;
-    data(out, container::data::data_of(c), l)?;
-    leases(out, c, LEASES_AT, FIXED_PLACES, b"place ")?;
-    let shown = lesser(extras, MOST_EXTRAS);
-    leases(out, c, frame.extras_at(), shown, b"extra ")?;
+    data(out, container::data::data_of(c), list)?;
+    leases(out, c, LEASES_AT, FIXED_PLACES, "place")?;
+    let shown = extras.min(MOST_EXTRAS);
+    leases(out, c, frame.extras_at(), shown, "extra")?;
     if shown < extras {
-        write(out, b"    ... and ")?;
-        number(out, (extras - shown) as u64)?;
-        write(out, b" extra places more\n")?;
+        let more = extras - shown;
+        writeln!(out, "    ... and {more} extra places more")?;
     }
     Ok(())
 }
 
 // What a container holds at its end.
-pub(crate) fn container<W: Write>(out: &mut W, c: &[u8], l: &[u8]) -> io::Result<()> {
+pub(crate) fn container<W: Write>(
+    out: &mut W,
+    c: &[u8],
+    list: &[u8; LIST_LENGTH],
+) -> io::Result<()> {
     match format::judging::judge(c) {
-        Judged::BadLength => write(
+        Ok(frame) => parts(out, c, frame, list),
+        Err(Flaw::BadLength) => writeln!(
             out,
-            b"the container   none: the buffer's length is not allowed\n",
+            "the container   none: the buffer's length is not allowed"
         ),
-        Judged::Malformed => write(
-            out,
-            b"the container   none: the buffer is not well formed\n",
-        ),
-        Judged::Formed(frame) => parts(out, c, frame, l),
+        Err(Flaw::Malformed) => {
+            writeln!(out, "the container   none: the buffer is not well formed")
+        }
     }
 }
 
-fn share_part<W: Write>(out: &mut W, name: &[u8], part: &[u8]) -> io::Result<()> {
-    write(out, name)?;
-    number(out, part.len() as u64)
+fn edition_name(edition: u32) -> &'static str {
+    if edition == MDMF { "MDMF" } else { "SDMF" }
 }
 
-// The parts of a share, in one order for both editions; only MDMF has spare bytes.
+// The parts of a share by their lengths, in one order for both editions; only MDMF has spare bytes.
 fn share_parts<W: Write>(out: &mut W, c: &[u8], edition: u32) -> io::Result<()> {
-    share_part(out, b" share: key ", shares::share::container_key(c))?;
-    share_part(out, b", signature ", shares::share::container_signature(c))?;
-    share_part(out, b", chain ", shares::share::container_chain(c))?;
-    share_part(out, b", tree ", shares::share::container_tree(c))?;
-    share_part(
-        out,
-        b", share data ",
-        shares::share::container_share_data(c),
-    )?;
-    share_part(
-        out,
-        b", private key ",
-        shares::share::container_private_key(c),
-    )?;
+    write!(out, "    an {} share", edition_name(edition))?;
+    let parts = [
+        (": key", Part::Key),
+        (", signature", Part::Signature),
+        (", chain", Part::Chain),
+        (", tree", Part::Tree),
+        (", share data", Part::ShareData),
+        (", private key", Part::PrivateKey),
+    ];
+    for (name, part) in parts {
+        let len = container_part(c, part).len();
+        write!(out, "{name} {len}")?;
+    }
     if edition == MDMF {
-        share_part(out, b", spare ", shares::share::container_spare(c))?;
+        let spare = container_part(c, Part::Spare).len();
+        write!(out, ", spare {spare}")?;
     }
-    write(out, b" bytes\n")
+    writeln!(out, " bytes")
 }
 
-fn edition_name<W: Write>(out: &mut W, edition: u32) -> io::Result<()> {
-    if edition == MDMF {
-        write(out, b"MDMF")
-    } else {
-        write(out, b"SDMF")
-    }
-}
-
-// A refusal as a share. 22 is of neither edition.
-fn no_share<W: Write>(out: &mut W, outcome: u32, edition: u32) -> io::Result<()> {
-    write(out, b"    no ")?;
-    if outcome != 22 {
-        edition_name(out, edition)?;
-        write(out, b" ")?;
-    }
-    write(out, b"share: outcome ")?;
-    number(out, outcome as u64)?;
-    write(out, b"\n")
-}
-
-// The share in a container's data; data too short for a share's header is passed over.
+// The share in a container's data; data too short for a share's header is passed over. Outcome 22 is of neither
+// edition.
 pub(crate) fn share<W: Write>(out: &mut W, c: &[u8]) -> io::Result<()> {
     let checked = shares::share::check_container(c);
-    if checked.number == 0 {
-        write(out, b"    an ")?;
-        edition_name(out, checked.edition)?;
-        return share_parts(out, c, checked.edition);
+    let edition = edition_name(checked.edition);
+    match checked.number {
+        0 => share_parts(out, c, checked.edition),
+        1..=21 => Ok(()),
+        22 => writeln!(out, "    no share: outcome 22"),
+        number => writeln!(out, "    no {edition} share: outcome {number}"),
     }
-    if checked.number < 22 {
-        return Ok(());
-    }
-    no_share(out, checked.number, checked.edition)
 }

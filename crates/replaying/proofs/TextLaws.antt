@@ -1,42 +1,22 @@
 -- Laws about runs and numerals.
-use mathlib.Core.Path.{◌≡◌, refl, ◌∙◌}
-use mathlib.Core.Bool.{Bool, true, false, cond}
-use mathlib.Core.List.{List, [], ◌∷◌}
-use Prim.Native.Nat.{ℕ, suc, ◌+◌, ◌*◌, ◌-◌, ◌≤◌, ◌<◌}
-use native.Mathlib.Numerals.{add-one}
-use native.Mathlib.Omega.{arith}
-use lib.Dec.{ltb}
-use lib.ListN.{length, drop, get_or, drop_of_length-le}
-use lib.Seq.{drop-cons}
-use borrow.Author.Tests.{lt-ltb, le-ltb, ltb-false, eq-eqb, ne_eqb}
+use Rattle.std.proofs.Common.{◌≡◌, refl, Bool, true, false, List, [], ◌∷◌, ℕ, ◌+◌, ◌*◌, ◌-◌, ◌≤◌, ◌<◌}
+use Rattle.std.proofs.Common.{Option, Some, None, Ok, Err, ltb, length, drop, get_or, arith, add-one, drop-cons}
+use lib.ListN.{drop_of_length-le}
+use borrow.Author.Tests.{lt-ltb, le-ltb, eq-eqb, ne_eqb}
+use Rattle.std.proofs.lemmas.Bool.Decides.{nat_tests}
+use Rattle.std.specs.Char.{digit_value}
+use Rattle.std.specs.Option.{SomeIff}
+use Rattle.std.specs.List.{take_while}
+use Rattle.std.proofs.lemmas.List.Folds.{length-prefix_len}
 use Rattle.replaying.specs.Scanning.{is_of, run}
-use Rattle.replaying.specs.Numerals.{value_after, value_of, decimal_of, pair_at}
+use Rattle.replaying.specs.Numerals.{value_after, value_of, value_within, decimal_of, hex_of}
 use Rattle.replaying.specs.declared.scanning.Sort.{Sort}
-use Rattle.replaying.specs.declared.numerals.Decimal.TheVariants.{Missing, TooLarge, Value}
-use Rattle.replaying.specs.declared.numerals.Pair.TheVariants.{Byte}
-use Rattle.replaying.specs.declared.numerals.Pair.TheVariants.{Missing as NoPair}
+use Rattle.replaying.specs.declared.numerals.NumberFault.TheVariants.{Missing, TooLarge}
 
--- A run by its first byte.
-module _ (k : Sort) (s : List ℕ) (i : ℕ) where
-  run_by : i < length s → run k (drop i s) ≡ cond (is_of k (get_or s i 0)) (suc (run k (drop (i + 1) s))) 0
-  unfolding run
-  run_by h = rw (add-one, drop-cons s i 0)
-
-  pub run_more : i < length s → is_of k (get_or s i 0) ≡ true → i + run k (drop i s) ≡ i + 1 + run k (drop (i + 1) s)
-  run_more h e =
-      let q : run k (drop i s) ≡ suc (run k (drop (i + 1) s)) = run_by h ∙ rw e in
-      omega arith
-
-  pub run_stop : i < length s → is_of k (get_or s i 0) ≡ false → i + run k (drop i s) ≡ i
-  run_stop h e =
-      let q : run k (drop i s) ≡ 0 = run_by h ∙ rw e in
-      omega arith
-
-  pub run_none : length s ≤ i → i + run k (drop i s) ≡ i
-  unfolding run
-  run_none h =
-      let q : run k (drop i s) ≡ 0 = rw (drop_of_length-le s {i = i} h) in
-      omega arith
+-- A run is what is taken while the bytes are of the sort.
+pub length-taken : (k : Sort) (s : List ℕ) → length (take_while (is_of k) s) ≡ run k s
+unfolding run
+length-taken k s = length-prefix_len (is_of k) s
 
 -- A decimal value, digit by digit.
 module _ (d : List ℕ) (i acc : ℕ) where
@@ -53,31 +33,47 @@ unfolding value_after
 value_grows a [] = omega arith
 value_grows a (d ∷ ds) = omega (arith, value_grows (a * 10 + (d - 48)) ds)
 
+-- A value at most the bound, or above it.
+module _ (ds : List ℕ) (most : ℕ) where
+  pub within_value : (v : ℕ) → v ≡ value_of ds → v ≤ most → Some v ≡ value_within ds most
+  unfolding value_within
+  within_value v e h = rw (← e, le-ltb most v h)
+
+  pub within_none : most < value_of ds → None ≡ value_within ds most
+  unfolding value_within
+  within_none h = rw (lt-ltb most (value_of ds) h)
+
 -- The three cases of a decimal number.
 module _ (ds : List ℕ) (next most : ℕ) where
-  pub decimal_none : length ds ≡ 0 → decimal_of ds next most ≡ Missing
+  pub decimal_none : length ds ≡ 0 → decimal_of ds next most ≡ Err Missing
   unfolding decimal_of
   decimal_none e = rw (eq-eqb (length ds) 0 e)
 
-  pub decimal_large : 0 < length ds → most < value_of ds → decimal_of ds next most ≡ TooLarge most
-  unfolding decimal_of
-  decimal_large h k = rw (ne_eqb (length ds) 0 (λ e. omega arith), lt-ltb most (value_of ds) k)
+  pub decimal_large : 0 < length ds → value_within ds most ≡ None → decimal_of ds next most ≡ Err (TooLarge most)
+  unfolding decimal_of value_within
+  decimal_large h e = go (ltb most (value_of ds)) refl
+    where
+      go : (t : Bool) → ltb most (value_of ds) ≡ t → decimal_of ds next most ≡ Err (TooLarge most)
+      go true q = rw (ne_eqb (length ds) 0 (λ z. omega arith), q)
+      go false q =
+          let z : Some (value_of ds) ≡ None = rw q at e in
+          cc
 
-  pub decimal_value : 0 < length ds → (v : ℕ) → v ≡ value_of ds → v ≤ most → decimal_of ds next most ≡ Value v next
-  unfolding decimal_of
-  decimal_value h v e k = rw (ne_eqb (length ds) 0 (λ z. omega arith), ← e, le-ltb most v k)
+  pub decimal_value : 0 < length ds → (v : ℕ) → value_within ds most ≡ Some v → decimal_of ds next most ≡ Ok (v, next)
+  unfolding decimal_of value_within
+  decimal_value h v e = go (ltb most (value_of ds)) refl
+    where
+      go : (t : Bool) → ltb most (value_of ds) ≡ t → decimal_of ds next most ≡ Ok (v, next)
+      go true q =
+          let z : None ≡ Some v = rw q at e in
+          cc
+      go false q =
+          let z : Some (value_of ds) ≡ Some v = rw q at e in
+          let y : value_of ds ≡ v = cc in
+          rw (ne_eqb (length ds) 0 (λ x. omega arith), q, y)
 
--- A pair that is a byte has two digits.
-pair_short : (s : List ℕ) (at : ℕ) → ltb (length s - at) 2 ≡ true → pair_at s at ≡ NoPair
-unfolding pair_at
-pair_short s at e = rw e
-
-pub pair_inside : (s : List ℕ) (at b : ℕ) → pair_at s at ≡ Byte b → at + 2 ≤ length s
-pair_inside s at b e = go (ltb (length s - at) 2) refl
-  where
-    go : (t : Bool) → ltb (length s - at) 2 ≡ t → at + 2 ≤ length s
-    go true q =
-        let r : pair_at s at ≡ NoPair = pair_short s at q in
-        let z : ◌≡◌ {A = ℕ} 0 1 = cc in
-        absurd (omega arith)
-    go false q = omega (arith, ltb-false (length s - at) 2 q)
+-- A digit below 16 is a hexadecimal one.
+pub hex_is : (b : ℕ) (o : Option ℕ) → SomeIff o (digit_value b < 16) (digit_value b) → o ≡ hex_of b
+unfolding hex_of
+hex_is b None h = grind (arith, nat_tests)
+hex_is b (Some d) h = grind (arith, nat_tests)

@@ -1,15 +1,12 @@
 // The words that lines begin with.
-ghost use Rattle.std.specs.Prelude.{◌≡◌, cond, ◌≤◌, ◌<◌, length};
-ghost use Rattle.octets.specs.Strings.{same};
-ghost use Rattle.replaying.specs.Commands.{word_of, command_here, command_of, followed};
-ghost use Rattle.replaying.specs.Commands.{ends_at, argument_at};
+ghost use Rattle.std.specs.Prelude.{◌≡◌, ◌≤◌, ◌<◌, length, IfOk, IfSome};
+ghost use Rattle.replaying.specs.Commands.{word_of, command_here, command_of, ends_at, argument_at, Followed};
 
-use crate::items::{Fault, Item};
-use crate::numerals::Decimal;
+use crate::items::Fault;
 use crate::scanning::Sort;
 use crate::{items, numerals, scanning};
 
-#[derive(Clone, Copy)]
+#[derive(Clone, Copy, Debug, PartialEq, Eq)]
 pub enum Word {
     Buffer,
     Load,
@@ -22,117 +19,87 @@ pub enum Word {
     Watch,
     Expect,
     Say,
-    Unknown,
 }
 
-// A line: nothing to do, a word and the position behind it, or why not.
-#[derive(Clone, Copy)]
-pub enum Command {
-    Nothing,
-    Do(Word, usize),
-    Bad(Fault),
+// The word of a line, if it is known, and the position behind it.
+#[derive(Clone, Copy, Debug, PartialEq, Eq)]
+pub struct Command {
+    pub word: Option<Word>,
+    pub next: usize,
 }
 
-// The one number of a line, or why not.
-#[derive(Clone, Copy)]
-pub enum Argument {
-    Number(u32),
-    Bad(Fault),
-}
-
-fn is(w: &[u8], name: &[u8]) -> bool
-    ensures { result ≡ same w.now name.now }
-{
-    if w.len() == name.len() {
-        return octets::strings::same(w, name);
-    }
-    false
-}
-
-// One word or the other.
-fn pick(is: bool, word: Word, other: Word) -> Word
-    ensures { result ≡ cond is word other }
-{
-    if is {
-        return word;
-    }
-    other
-}
-
-// The list of the words, from the last to the first.
-fn word_of(w: &[u8]) -> Word
+#[tactic(auto, unfolding(crate::specs::Commands::word_of))]
+fn word_of(w: &[u8]) -> Option<Word>
     ensures { result ≡ word_of w.now }
 {
-    let mut word = Word::Unknown;
-    word = pick(is(w, b"say"), Word::Say, word);
-    word = pick(is(w, b"expect"), Word::Expect, word);
-    word = pick(is(w, b"watch"), Word::Watch, word);
-    word = pick(is(w, b"apply"), Word::Apply, word);
-    word = pick(is(w, b"bytes"), Word::Bytes, word);
-    word = pick(is(w, b"create"), Word::Create, word);
-    word = pick(is(w, b"enabler"), Word::Enabler, word);
-    word = pick(is(w, b"node"), Word::Node, word);
-    word = pick(is(w, b"list"), Word::List, word);
-    word = pick(is(w, b"load"), Word::Load, word);
-    word = pick(is(w, b"buffer"), Word::Buffer, word);
-    word
+    match str::from_utf8(w).ok()? {
+        "buffer" => Some(Word::Buffer),
+        "load" => Some(Word::Load),
+        "list" => Some(Word::List),
+        "node" => Some(Word::Node),
+        "enabler" => Some(Word::Enabler),
+        "create" => Some(Word::Create),
+        "bytes" => Some(Word::Bytes),
+        "apply" => Some(Word::Apply),
+        "watch" => Some(Word::Watch),
+        "expect" => Some(Word::Expect),
+        "say" => Some(Word::Say),
+        _ => None,
+    }
 }
 
 // The command that begins at `at`, where a byte stands that is no space.
-fn command_here(s: &[u8], at: usize) -> Command
+#[tactic(auto, unfolding(crate::specs::Commands::command_here, crate::specs::Commands::word_to))]
+fn command_here(s: &[u8], at: usize) -> Option<Command>
     requires { at < length s.now }
-    ensures { (result ≡ command_here s.now at) × followed (length s.now) result }
+    ensures answer { result ≡ command_here s.now at }
+    ensures followed { IfSome result (Followed (length s.now)) }
 {
-    if s[at] == 35 {
-        return Command::Nothing;
+    if s[at] == b'#' {
+        return None;
     }
-    let e = scanning::run_end(s, at, Sort::But(32));
-    Command::Do(word_of(&s[at..e]), e)
+    let next = scanning::run_end(s, at, Sort::But(b' '));
+    let word = word_of(&s[at..next]);
+    Some(Command { word, next })
 }
 
-// The command of a line; a line may be empty or a comment. A carriage return stands nowhere in it: most often it is
-// the end of a line of another system.
-pub fn command_of(s: &[u8]) -> Command
-    ensures { (result ≡ command_of s.now) × followed (length s.now) result }
+// The command of a line, which may be empty or a comment. A carriage return stands nowhere in it: most often it is the
+// end of a line of another system.
+#[tactic(auto, unfolding(crate::specs::Commands::command_of, crate::specs::Commands::command_from))]
+pub fn command_of(s: &[u8]) -> Result<Option<Command>, Fault>
+    ensures answer { result ≡ command_of s.now }
+    ensures followed { IfOk result (λ o. IfSome o (Followed (length s.now))) }
 {
-    if scanning::run_end(s, 0, Sort::But(13)) < s.len() {
-        return Command::Bad(Fault::CarriageReturn);
+    if scanning::run_end(s, 0, Sort::But(b'\r')) < s.len() {
+        return Err(Fault::CarriageReturn);
     }
-    let p = scanning::run_end(s, 0, Sort::Only(32));
-    if p < s.len() {
-        return command_here(s, p);
+    let start = scanning::run_end(s, 0, Sort::Only(b' '));
+    if start == s.len() {
+        return Ok(None);
     }
-    Command::Nothing
+    Ok(command_here(s, start))
 }
 
 // Whether nothing but spaces and a comment is left.
+#[tactic(auto, unfolding(crate::specs::Commands::ends_at))]
 pub fn ends(s: &[u8], at: usize) -> bool
     requires { at ≤ length s.now }
     ensures { result ≡ ends_at s.now at }
 {
-    match items::next_item(s, at) {
-        Item::End => true,
-        Item::Repeat(_, _, _) => false,
-        Item::Number(_, _) => false,
-        Item::Text(_, _, _) => false,
-        Item::Bad(_) => false,
-    }
+    matches!(items::next_item(s, at), Ok(None))
 }
 
 // The number that is all that is left.
-pub fn only_number(s: &[u8], at: usize, most: u32) -> Argument
+#[tactic(auto, unfolding(crate::specs::Commands::argument_at))]
+pub fn only_number(s: &[u8], at: usize, most: u32) -> Result<u32, Fault>
     requires { at ≤ length s.now }
-    ensures { result ≡ argument_at s.now at most }
+    ensures answer { result ≡ argument_at s.now at most }
+    ensures bound { IfOk result (λ n. n ≤ most) }
 {
-    let p = scanning::run_end(s, at, Sort::Only(32));
-    match numerals::decimal_at(s, p, most) {
-        Decimal::Missing => Argument::Bad(Fault::NoNumber),
-        Decimal::TooLarge(bound) => Argument::Bad(Fault::Above(bound)),
-        Decimal::Value(v, next) => {
-            if ends(s, next) {
-                return Argument::Number(v);
-            }
-            Argument::Bad(Fault::More)
-        }
+    let start = scanning::run_end(s, at, Sort::Only(b' '));
+    let (value, next) = numerals::decimal_at(s, start, most)?;
+    if !ends(s, next) {
+        return Err(Fault::More);
     }
+    Ok(value)
 }

@@ -1,19 +1,23 @@
 // Bytes written as text: pairs of hexadecimal digits, repeats, numbers of four bytes, quoted text.
-ghost use Rattle.std.specs.Prelude.{◌≡◌, ◌+◌, ◌-◌, ◌≤◌, ◌<◌, length, replicate};
-ghost use Rattle.octets.specs.Moves.{put};
-ghost use Rattle.replaying.specs.Items.{inside, text_at, negated, number_of, negative_of, repeat_of, stands_at};
+ghost use Rattle.std.specs.Prelude.{◌≡◌, ◌+◌, ◌≤◌, ◌<◌, length, IfOk, IfSome, IsTrue};
+ghost use Rattle.replaying.specs.Items.{Inside, Lies, size_of, bytes_of, negated, below_of, text_at, stands_at};
 ghost use Rattle.replaying.specs.Items.{numeral_at, repeat_at, item_here, item_at, line_right, line_bytes, Stepped};
-ghost use Rattle.replaying.specs.Items.{Written, Leads, line_answer};
+ghost use Rattle.replaying.specs.Items.{Written, line_answer};
 
-use crate::numerals::{Decimal, Pair};
+use crate::numerals::NumberFault;
 use crate::scanning::Sort;
 use crate::{numerals, scanning};
+use std::error::Error;
+use std::fmt;
 
 // The largest N of XX*N: enough for a request that is a little too long.
 const MOST_REPEATS: u32 = 65540;
 
+// How far below 0 a number may be.
+const MOST_BELOW: u32 = 0x8000_0000;
+
 // Why a line is refused.
-#[derive(Clone, Copy)]
+#[derive(Clone, Copy, Debug, PartialEq, Eq)]
 pub enum Fault {
     CarriageReturn,
     Word,
@@ -29,229 +33,207 @@ pub enum Fault {
     More,
 }
 
-// What stands next on a line; each but the first and the last ends with the position behind it.
-#[derive(Clone, Copy)]
+impl From<NumberFault> for Fault {
+    ghost use Rattle.replaying.specs.Items.{above_of};
+
+    ghost from_gives = { λ fault f. f ≡ above_of fault };
+
+    fn from(fault: NumberFault) -> Fault {
+        match fault {
+            NumberFault::Missing => Fault::NoNumber,
+            NumberFault::TooLarge(bound) => Fault::Above(bound),
+        }
+    }
+}
+
+impl fmt::Display for Fault {
+    fn fmt<W: fmt::Write>(&self, f: &mut fmt::Formatter<W>) -> fmt::Result {
+        match self {
+            Fault::CarriageReturn => {
+                write!(f, "a carriage return: lines end with a line feed alone")
+            }
+            Fault::Word => write!(f, "the line begins with no word that is known"),
+            Fault::NoNumber => write!(f, "a decimal number is missing"),
+            Fault::Above(most) => write!(f, "the number is above {most}"),
+            Fault::Below(most) => write!(f, "the number is below -{most}"),
+            Fault::Item => write!(f, "bytes are pairs of hex digits, =NUMBER or 'text'"),
+            Fault::Quote => write!(f, "the text has no closing quote"),
+            Fault::Room(room) => { write!(f, "these are too many bytes: there is room for {room}") }
+            Fault::More => write!(f, "there is more on the line than belongs there"),
+        }
+    }
+}
+
+impl Error for Fault {}
+
+// What stands on a line, up to its end.
+#[derive(Clone, Copy, Debug, PartialEq, Eq)]
 pub(crate) enum Item {
-    End,
     // A byte and how often.
-    Repeat(u8, usize, usize),
+    Repeat(u8, usize),
     // Four bytes.
-    Number(u32, usize),
+    Number(u32),
     // The text from one position up to another.
-    Text(usize, usize, usize),
-    Bad(Fault),
+    Text(usize, usize),
 }
 
-// After an item: the positions in the text and in the buffer, the count of all, or why not.
-#[derive(Clone, Copy)]
-enum Step {
-    On(usize, usize),
-    Done(usize),
-    Bad(Fault),
-}
+impl Item {
+    fn size(self, line: &[u8]) -> usize
+        requires { Lies (length line.now) self }
+        ensures { result ≡ size_of self }
+    {
+        match self {
+            Item::Repeat(_, times) => times,
+            Item::Number(_) => 4,
+            Item::Text(from, to) => to - from,
+        }
+    }
 
-#[derive(Clone, Copy)]
-pub enum Put {
-    Done(usize),
-    Bad(Fault),
+    // Makes d, which is as long, the bytes of the item.
+    fn put(self, line: &[u8], d: &mut [u8])
+        requires lies { Lies (length line.now) self }
+        requires room { length d.old ≡ size_of self }
+        ensures { d.new ≡ bytes_of line.now self }
+    {
+        match self {
+            Item::Repeat(byte, _) => d.fill(byte),
+            Item::Number(value) => octets::numbers::put_u32(d, 0, value),
+            Item::Text(from, to) => d.copy_from_slice(&line[from..to]),
+        }
+    }
 }
 
 // Quoted text, whose first byte is at `at`.
-fn text(s: &[u8], at: usize) -> Item
+#[tactic(auto, unfolding(crate::specs::Items::text_at, crate::specs::Items::text_to))]
+fn text(s: &[u8], at: usize) -> Result<(Item, usize), Fault>
     requires { at ≤ length s.now }
-    ensures { (result ≡ text_at s.now at) × inside (length s.now) result }
+    ensures answer { result ≡ text_at s.now at }
+    ensures inside { IfOk result (Inside (length s.now) at) }
 {
-    let e = scanning::run_end(s, at, Sort::But(39));
-    if e < s.len() {
-        return Item::Text(at, e, e + 1);
+    let end = scanning::run_end(s, at, Sort::But(b'\''));
+    if end < s.len() {
+        Ok((Item::Text(at, end), end + 1))
+    } else {
+        Err(Fault::Quote)
     }
-    Item::Bad(Fault::Quote)
 }
 
 // 2^32 - v, in 32 bits.
 fn negative(v: u32) -> u32
     ensures { result ≡ negated v }
 {
-    if v == 0 {
-        return 0;
-    }
-    4294967295 - (v - 1)
+    v.wrapping_neg()
 }
 
-fn number_item(d: Decimal) -> Item
-    ensures { result ≡ number_of d }
+// A negative number has a bound of its own.
+fn below(fault: NumberFault) -> Fault
+    ensures { result ≡ below_of fault }
 {
-    match d {
-        Decimal::Missing => Item::Bad(Fault::NoNumber),
-        Decimal::TooLarge(bound) => Item::Bad(Fault::Above(bound)),
-        Decimal::Value(v, next) => Item::Number(v, next),
-    }
-}
-
-fn negative_item(d: Decimal) -> Item
-    ensures { result ≡ negative_of d }
-{
-    match d {
-        Decimal::Missing => Item::Bad(Fault::NoNumber),
-        Decimal::TooLarge(bound) => Item::Bad(Fault::Below(bound)),
-        Decimal::Value(v, next) => Item::Number(negative(v), next),
-    }
-}
-
-fn repeat_item(b: u8, d: Decimal) -> Item
-    ensures { result ≡ repeat_of b d }
-{
-    match d {
-        Decimal::Missing => Item::Bad(Fault::NoNumber),
-        Decimal::TooLarge(bound) => Item::Bad(Fault::Above(bound)),
-        Decimal::Value(v, next) => Item::Repeat(b, v as usize, next),
+    match fault {
+        NumberFault::Missing => Fault::NoNumber,
+        NumberFault::TooLarge(bound) => Fault::Below(bound),
     }
 }
 
 // Whether b stands at `at`.
+#[tactic(auto, unfolding(crate::specs::Items::stands_at))]
 fn stands(s: &[u8], at: usize, b: u8) -> bool
-    ensures { result ≡ stands_at s.now at b }
+    ensures value { result ≡ stands_at s.now at b }
+    ensures within { IsTrue result → at < length s.now }
 {
-    if at < s.len() {
-        return s[at] == b;
-    }
-    false
+    at < s.len() && s[at] == b
 }
 
 // A number whose sign or first digit is at `at`; a negative one is at least -2^31.
-fn number(s: &[u8], at: usize) -> Item
+#[tactic(auto, unfolding(crate::specs::Items::numeral_at))]
+fn number(s: &[u8], at: usize) -> Result<(Item, usize), Fault>
     requires { at ≤ length s.now }
-    ensures { (result ≡ numeral_at s.now at) × inside (length s.now) result }
+    ensures answer { result ≡ numeral_at s.now at }
+    ensures inside { IfOk result (Inside (length s.now) at) }
 {
-    if stands(s, at, 45) {
-        return negative_item(numerals::decimal_at(s, at + 1, 2147483648));
+    if stands(s, at, b'-') {
+        let (value, next) = numerals::decimal_at(s, at + 1, MOST_BELOW).map_err(below)?;
+        return Ok((Item::Number(negative(value)), next));
     }
-    number_item(numerals::decimal_at(s, at, 4294967295))
+    let (value, next) = numerals::decimal_at(s, at, u32::MAX)?;
+    Ok((Item::Number(value), next))
 }
 
 // A pair of hexadecimal digits, and how often.
-fn repeat(s: &[u8], at: usize) -> Item
+#[tactic(auto, unfolding(crate::specs::Items::repeat_at, crate::specs::Items::repeat_by))]
+fn repeat(s: &[u8], at: usize) -> Result<(Item, usize), Fault>
     requires { at ≤ length s.now }
-    ensures { (result ≡ repeat_at s.now at) × inside (length s.now) result }
+    ensures answer { result ≡ repeat_at s.now at }
+    ensures inside { IfOk result (Inside (length s.now) at) }
 {
-    match numerals::pair_at(s, at) {
-        Pair::Missing => Item::Bad(Fault::Item),
-        Pair::Byte(b) => {
-            if stands(s, at + 2, 42) {
-                return repeat_item(b, numerals::decimal_at(s, at + 3, MOST_REPEATS));
-            }
-            Item::Repeat(b, 1, at + 2)
-        }
+    let byte = numerals::pair_at(s, at).ok_or(Fault::Item)?;
+    if stands(s, at + 2, b'*') {
+        let (times, next) = numerals::decimal_at(s, at + 3, MOST_REPEATS)?;
+        return Ok((Item::Repeat(byte, times as usize), next));
     }
+    Ok((Item::Repeat(byte, 1), at + 2))
 }
 
 // The item that begins at `at`, where a byte stands that is no space.
-fn item_here(s: &[u8], at: usize) -> Item
+#[tactic(auto, unfolding(crate::specs::Items::item_here))]
+fn item_here(s: &[u8], at: usize) -> Result<Option<(Item, usize)>, Fault>
     requires { at < length s.now }
-    ensures { (result ≡ item_here s.now at) × inside (length s.now) result }
+    ensures answer { result ≡ item_here s.now at }
+    ensures inside { IfOk result (λ o. IfSome o (Inside (length s.now) at)) }
 {
-    let b = s[at];
-    if b == 35 {
-        return Item::End;
+    match s[at] {
+        b'#' => Ok(None),
+        b'\'' => Ok(Some(text(s, at + 1)?)),
+        b'=' => Ok(Some(number(s, at + 1)?)),
+        _ => Ok(Some(repeat(s, at)?)),
     }
-    if b == 39 {
-        return text(s, at + 1);
-    }
-    if b == 61 {
-        return number(s, at + 1);
-    }
-    repeat(s, at)
 }
 
-// The next item of a line: a comment begins with #, text with a quote, a number with =.
-pub(crate) fn next_item(s: &[u8], at: usize) -> Item
+// The next item of a line and the position behind it: a comment begins with #, text with a quote, a number with =.
+#[tactic(auto, unfolding(crate::specs::Items::item_at, crate::specs::Items::item_from))]
+pub(crate) fn next_item(s: &[u8], at: usize) -> Result<Option<(Item, usize)>, Fault>
     requires { at ≤ length s.now }
-    ensures { (result ≡ item_at s.now at) × inside (length s.now) result }
+    ensures answer { result ≡ item_at s.now at }
+    ensures inside { IfOk result (λ o. IfSome o (Inside (length s.now) at)) }
 {
-    let p = scanning::run_end(s, at, Sort::Only(32));
-    if p < s.len() {
-        return item_here(s, p);
-    }
-    Item::End
-}
-
-// Makes each byte b.
-fn fill(d: &mut [u8], b: u8)
-    ensures { d.new ≡ replicate (length d.old) b }
-{
-    let mut i = 0;
-    while i < d.len() {
-        d[i] = b;
-        i += 1;
+    let start = scanning::run_end(s, at, Sort::Only(b' '));
+    if start < s.len() {
+        item_here(s, start)
+    } else {
+        Ok(None)
     }
 }
 
-fn put_repeat(d: &mut [u8], at: usize, b: u8, times: usize)
-    requires { at + times ≤ length d.old }
-    ensures { d.new ≡ put at (replicate times b) d.old }
-{
-    let e = at + times;
-    fill(&mut d[at..e], b);
-}
-
-// Puts the bytes of the next item into d from k on.
-fn put_item(s: &[u8], at: usize, d: &mut [u8], k: usize) -> Step
+// Puts the bytes of the next item into d from k on; the positions behind them in the line and in d.
+fn put_item(s: &[u8], at: usize, d: &mut [u8], k: usize) -> Result<Option<(usize, usize)>, Fault>
     requires { (at ≤ length s.now) × (k ≤ length d.old) }
-    ensures { Stepped s.now at d.old k d.new result
-        × Leads s.now at (length d.old) k result }
+    ensures { Stepped s.now at d.old k d.new result }
 {
-    let room = d.len();
-    match next_item(s, at) {
-        Item::End => Step::Done(k),
-        Item::Bad(f) => Step::Bad(f),
-        Item::Repeat(b, times, next) => {
-            if room - k < times {
-                return Step::Bad(Fault::Room(room));
-            }
-            put_repeat(d, k, b, times);
-            Step::On(next, k + times)
-        }
-        Item::Number(v, next) => {
-            if room - k < 4 {
-                return Step::Bad(Fault::Room(room));
-            }
-            octets::numbers::put_u32(d, k, v);
-            Step::On(next, k + 4)
-        }
-        Item::Text(a, e, next) => {
-            if room - k < e - a {
-                return Step::Bad(Fault::Room(room));
-            }
-            octets::moves::copy_part(d, k, &s[a..e]);
-            Step::On(next, k + (e - a))
-        }
+    let Some((item, next)) = next_item(s, at)? else {
+        return Ok(None);
+    };
+    let size = item.size(s);
+    if size > d.len() - k {
+        return Err(Fault::Room(d.len()));
     }
+    let end = k + size;
+    item.put(s, &mut d[k..end]);
+    Ok(Some((next, end)))
 }
 
-// Puts the bytes of all items from `at` on into d from k on. A line has no more items than bytes.
-pub fn put_items(s: &[u8], at: usize, d: &mut [u8], k: usize) -> Put
+// Puts the bytes of all items from `at` on into d from k on; the position behind them.
+pub fn put_items(s: &[u8], at: usize, d: &mut [u8], k: usize) -> Result<usize, Fault>
     requires { (at ≤ length s.now) × (k ≤ length d.old) }
-    ensures { Written (line_right (length s.now + 1) s.now at)
-        (line_bytes (length s.now + 1) s.now at) d.old k d.new result
-        × (result ≡ line_answer (length s.now + 1) s.now at (length d.old) k) }
+    ensures written { Written (line_right (length s.now + 1) s.now at)
+        (line_bytes (length s.now + 1) s.now at) d.old k d.new result }
+    ensures answer { result ≡ line_answer (length s.now + 1) s.now at (length d.old) k }
 {
-    let mut left = s.len() + 1;
-    let mut p = at;
-    let mut n = k;
-    while 0 < left {
-        match put_item(s, p, d, n) {
-            Step::On(next, m) => {
-                p = next;
-                n = m;
-            }
-            Step::Done(m) => {
-                return Put::Done(m);
-            }
-            Step::Bad(f) => {
-                return Put::Bad(f);
-            }
-        }
-        left -= 1;
+    let mut place = at;
+    let mut end = k;
+    // A turn for each item; how many there are shows at the line's end.
+    while let Some((next, taken)) = put_item(s, place, d, end)? {
+        place = next;
+        end = taken;
     }
-    Put::Done(n)
+    Ok(end)
 }

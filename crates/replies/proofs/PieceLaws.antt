@@ -1,6 +1,6 @@
 -- The pieces that tables ask for, turns of the walks over a table, and the reply. Assumes nothing.
 use mathlib.Core.Path.{◌≡◌, refl, sym, ap, ◌∙◌}
-use mathlib.Core.Bool.{Bool, true, false, ◌&&◌}
+use mathlib.Core.Bool.{Bool, true, false, cond, ◌&&◌}
 use mathlib.Core.List.{List, [], ◌∷◌, ◌++◌, map}
 use Prim.Native.Nat.{ℕ, zero, suc, ◌+◌, ◌*◌, ◌-◌, ◌≤◌, ◌<◌}
 use native.Mathlib.Nat.{mul-suc}
@@ -13,7 +13,6 @@ use Rattle.octets.specs.Moves.{put}
 use Rattle.octets.specs.Numbers.{digits}
 use Rattle.octets.specs.Strings.{order, join}
 use Rattle.octets.specs.Facts.{Octets}
-use Rattle.octets.proofs.ListLaws.{and_assoc, and-true}
 use Rattle.octets.proofs.MoveLaws.{put-put, put-end, put_apart, put-length}
 use Rattle.octets.proofs.NumberLaws.{length_digits}
 use Rattle.format.specs.Layout.{limit}
@@ -24,14 +23,14 @@ use Rattle.rules.specs.Testing.{length_size}
 use Rattle.requests.specs.Cursors.{entry_at, test_at, body_of, body_at}
 use Rattle.requests.specs.Forms.{TableIn}
 use Rattle.requests.specs.Offsets.{resolved_of}
-use Rattle.requests.proofs.CursorLaws.{entry_resolved}
+use Rattle.requests.proofs.CursorLaws.{entry_resolved, entry_placed, resolved-some, resolved-none}
 use Rattle.requests.proofs.FormLaws.{all_next, all_end, sum_next, times_next}
 use Rattle.replies.specs.Pieces.{pieces_from, pieces_in, resolve_from, measured_of}
 use Rattle.requests.specs.declared.cursors.Entry.{Entry}
 use Rattle.requests.specs.declared.cursors.TestEntry.{TestEntry}
 use Rattle.requests.specs.declared.forms.Table.{Table}
-use Rattle.requests.specs.declared.offsets.Resolved.{Resolved}
-use Rattle.replies.specs.declared.pieces.Measured.{Measured}
+use Rattle.std.specs.Prelude.{Option, Some, None}
+use Rattle.std.proofs.lemmas.Option.{cond_some}
 
 -- ---- the tests and reads of a request ask for the pieces of its table
 pub test_pieces : (n p b : ℕ) (q d : List ℕ) → map (test_piece d) (tests_from n p b q) ≡ pieces_from test_size n p q d
@@ -149,92 +148,106 @@ module _ (stride left p : ℕ) (q d : List ℕ) (h : left ≤ 0) where
   unfolding every tests_from
   hold_end b = ap (λ (n : ℕ). every (holds d) (tests_from n p b q)) none_left
 
--- ---- the entry at p, as the code has read it: x, resolved to r
-pub record Reading (p stride : ℕ) (q d : List ℕ) (x : Entry) (r : Resolved) : Type 0 where
+-- ---- the entry at p, as the code has read it: x, its place r
+pub record Reading (p stride : ℕ) (q d : List ℕ) (x : Entry) (r : ℕ) : Type 0 where
   pub entry : x ≡ entry_at p stride q
-  pub place : r ≡ resolved_of (entry_offset p q) (length d)
+  pub place : r ≡ position (entry_offset p q) (length d)
 
-pub reading : {p stride : ℕ} {q d : List ℕ} {x : Entry} {r : Resolved} → Octets q → x ≡ entry_at p stride q
-    → r ≡ resolved_of (to_z w32 (of_z w32 x.offset)) (length d) → Reading p stride q d x r
-reading {p} {stride} {q} {d} {x} {r} o e f = record {
-  entry = e;
-  place = entry_resolved p q (length d) x.offset r o (ap (λ (y : Entry). y.offset) e) f;
-}
+offset_is : (p stride : ℕ) (q : List ℕ) (x : Entry) → x ≡ entry_at p stride q → x.offset ≡ entry_offset p q
+offset_is p stride q x e = ap (λ (y : Entry). y.offset) e
 
-module _ {p stride : ℕ} {q d : List ℕ} {x : Entry} {r : Resolved} (E : Reading p stride q d x r) where
+pub reading : {p stride : ℕ} {q d : List ℕ} {x : Entry} {r : ℕ} → Octets q → x ≡ entry_at p stride q
+    → r ≡ position (to_z w32 (of_z w32 x.offset)) (length d) → Reading p stride q d x r
+reading {p} {stride} {q} {d} {x} {r} o e f =
+    record { entry = e; place = entry_placed p q (length d) x.offset r o (offset_is p stride q x e) f }
+
+module _ {p stride : ℕ} {q d : List ℕ} {x : Entry} {r : ℕ} (E : Reading p stride q d x r) where
   reading_count : x.count ≡ entry_count p q
   reading_count = ap (λ (y : Entry). y.count) E.entry
-
-  reading-position : r.position ≡ position (entry_offset p q) (length d)
-  reading-position = ap (λ (y : Resolved). y.position) E.place
-
-  reading-resolves : r.resolves ≡ resolves (entry_offset p q) (length d)
-  reading-resolves = ap (λ (y : Resolved). y.resolves) E.place
 
   pub reading_next : x.next.at ≡ p + stride
   reading_next = ap (λ (y : Entry). y.next.at) E.entry
 
   -- The piece that the code takes is the entry's.
-  pub reading-piece : take x.count (drop r.position d) ≡ piece d (entry_offset p q) (entry_count p q)
+  pub reading-piece : take x.count (drop r d) ≡ piece d (entry_offset p q) (entry_count p q)
   unfolding piece
-  reading-piece = rw (reading_count, reading-position)
+  reading-piece = rw (reading_count, E.place)
 
 -- ---- measuring
--- What is left of the table t, with what has been measured so far.
-pub record Measuring (t : Table) (q d : List ℕ) (m : Measured) (at left : ℕ) : Type 0 where
+-- What is left of the table t, with the length that has been measured so far.
+pub record Measuring (t : Table) (q d : List ℕ) (sum at left : ℕ) : Type 0 where
   pub reaches : at + t.stride * left ≤ length q
-  pub resolved : (m.resolves && resolve_from t.stride left at q (length d))
-      ≡ resolve_from t.stride t.count t.first.at q (length d)
-  pub summed : m.length + length (reply_of (pieces_from t.stride left at q d)) ≡ length (reply_of (pieces_in t q d))
+  pub resolved : resolve_from t.stride left at q (length d) ≡ resolve_from t.stride t.count t.first.at q (length d)
+  pub summed : sum + length (reply_of (pieces_from t.stride left at q d)) ≡ length (reply_of (pieces_in t q d))
 
-pub measuring_start : (t : Table) (q d : List ℕ) → TableIn q t
-    → Measuring t q d (record { resolves = true; length = 0 }) t.first.at t.count
-measuring_start t q d h = record { reaches = h.inside; resolved = refl; summed = omega arith }
-
-module _ {t : Table} {q d : List ℕ} {m : Measured} {at left : ℕ} (M : Measuring t q d m at left) where
+module _ {t : Table} {q d : List ℕ} {sum at left : ℕ} (M : Measuring t q d sum at left) where
   measuring_sum : (h : 0 < left)
       → let s = piece d (entry_offset at q) (entry_count at q) in
       let rest = pieces_from t.stride (left - 1) (at + t.stride) q d in
-      m.length + (length_size + length s) + length (reply_of rest) ≡ length (reply_of (pieces_in t q d))
+      sum + (length_size + length s) + length (reply_of rest) ≡ length (reply_of (pieces_in t q d))
   measuring_sum h =
       let s = piece d (entry_offset at q) (entry_count at q) in
       let rest = pieces_from t.stride (left - 1) (at + t.stride) q d in
       let e = ap (λ (ps : List (List ℕ)). length (reply_of ps)) (pieces_next t.stride left at q d h) in
       omega (arith, M.summed, reply_cons s rest)
 
-  module _ (h : 0 < left) {x : Entry} {r : Resolved} (E : Reading at t.stride q d x r) (s : List ℕ)
-      (is : s ≡ take x.count (drop r.position d)) where
-    measuring_piece : length s ≡ length (piece d (entry_offset at q) (entry_count at q))
-    measuring_piece = ap length (is ∙ reading-piece E)
+  module _ (h : 0 < left) (o : Octets q) {x : Entry} (e : x ≡ entry_at at t.stride q) {r : Option ℕ}
+      (f : r ≡ resolved_of (to_z w32 (of_z w32 x.offset)) (length d)) where
+    place_is : r ≡ resolved_of (entry_offset at q) (length d)
+    place_is = entry_resolved at q (length d) x.offset r o (offset_is at t.stride q x e) f
 
-    -- The lengths add up without wrapping.
-    pub measuring_bound : TableIn q t → length d ≤ limit
-        → m.length + (length_size + length s) ≤ (length_size + limit) * entry_limit
-    measuring_bound T l =
-        omega (arith, measuring_sum h, measuring_piece, reply_most t.stride t.count t.first.at q d l, T.few)
+    pub measuring_none : r ≡ None → None ≡ measured_of t q d
+    measuring_none n =
+        let k : resolve_from t.stride t.count t.first.at q (length d) ≡ false =
+        sym M.resolved ∙ resolve_next t.stride left at q d h
+        ∙ rw (resolved-none (entry_offset at q) (length d) (sym place_is ∙ n)) in
+        rw k
 
-    pub measuring_next : (a : Bool) → a ≡ (m.resolves && r.resolves)
-        → Measuring t q d (record { resolves = a; length = m.length + (length_size + length s) }) x.next.at
-        (left - 1)
-    measuring_next a f =
-        let y = resolve_from t.stride (left - 1) (at + t.stride) q (length d) in
-        rw (reading_next E) (record {
-          reaches = omega (arith, M.reaches, times_next t.stride left at h);
-          resolved =
-              rw (f, reading-resolves E) (and_assoc m.resolves (resolves (entry_offset at q) (length d)) y)
-              ∙ ap (λ (k : Bool). m.resolves && k) (sym (resolve_next t.stride left at q d h)) ∙ M.resolved;
-          summed = rw measuring_piece (measuring_sum h);
-        })
+    module _ {p : ℕ} (k : r ≡ Some p) (s : List ℕ) (is : s ≡ take x.count (drop p d)) where
+      found_at : (resolves (entry_offset at q) (length d) ≡ true) × (position (entry_offset at q) (length d) ≡ p)
+      found_at = resolved-some (entry_offset at q) (length d) p (sym place_is ∙ k)
 
-  pub measuring_end : left ≤ 0 → m ≡ measured_of t q d
+      measuring_read : Reading at t.stride q d x p
+      measuring_read = record { entry = e; place = sym found_at.1 }
+
+      measuring_piece : length s ≡ length (piece d (entry_offset at q) (entry_count at q))
+      measuring_piece = ap length (is ∙ reading-piece measuring_read)
+
+      -- The lengths add up without wrapping.
+      pub measuring_bound : TableIn q t → length d ≤ limit
+          → sum + (length_size + length s) ≤ (length_size + limit) * entry_limit
+      measuring_bound T l =
+          omega (arith, measuring_sum h, measuring_piece, reply_most t.stride t.count t.first.at q d l, T.few)
+
+      pub measuring_next : Measuring t q d (sum + (length_size + length s)) x.next.at (left - 1)
+      measuring_next =
+          rw (reading_next measuring_read) (record {
+            reaches = omega (arith, M.reaches, times_next t.stride left at h);
+            resolved = rw found_at.0 at (sym (resolve_next t.stride left at q d h)) ∙ M.resolved;
+            summed = rw measuring_piece (measuring_sum h);
+          })
+
+  pub measuring_end : left ≤ 0 → Some sum ≡ measured_of t q d
   measuring_end h =
-      let a : m.resolves ≡ resolve_from t.stride t.count t.first.at q (length d) =
-      sym (and-true m.resolves)
-      ∙ ap (λ (k : Bool). m.resolves && k) (sym (resolve-end t.stride left at q d h)) ∙ M.resolved in
+      let a : resolve_from t.stride t.count t.first.at q (length d) ≡ true =
+      sym M.resolved ∙ resolve-end t.stride left at q d h in
       let e : length (reply_of (pieces_from t.stride left at q d)) ≡ 0 =
       ap (λ (ps : List (List ℕ)). length (reply_of ps)) (pieces_end t.stride left at q d h) ∙ reply_none in
-      let c : m.length ≡ length (reply_of (pieces_in t q d)) = omega (arith, M.summed) in
-      rw (← a, ← c)
+      let c : sum ≡ length (reply_of (pieces_in t q d)) = omega (arith, M.summed) in
+      rw (a, ← c)
+
+-- What it tells: whether every offset resolves, and the length of the reply.
+pub measured-some : (t : Table) (q d : List ℕ) (n : ℕ) → measured_of t q d ≡ Some n
+    → (resolve_from t.stride t.count t.first.at q (length d) ≡ true) × (length (reply_of (pieces_in t q d)) ≡ n)
+measured-some t q d n e = cond_some (resolve_from t.stride t.count t.first.at q (length d)) _ n e
+
+pub measured-none : (t : Table) (q d : List ℕ) → measured_of t q d ≡ None
+    → resolve_from t.stride t.count t.first.at q (length d) ≡ false
+measured-none t q d e = go (resolve_from t.stride t.count t.first.at q (length d)) e
+  where
+    go : (b : Bool) → cond b (Some (length (reply_of (pieces_in t q d)))) None ≡ None → b ≡ false
+    go true h = cc
+    go false h = refl
 
 -- ---- writing
 -- The table, and the pieces right behind it.
@@ -292,8 +305,8 @@ writing_start t q d r h k =
     }
 
 module _ {t : Table} {q d r₀ r : List ℕ} {to behind at left : ℕ} (W : Writing t q d r₀ r to behind at left) where
-  module _ (h : 0 < left) {x : Entry} {p : Resolved} (E : Reading at t.stride q d x p) (s : List ℕ)
-      (is : s ≡ take x.count (drop p.position d)) where
+  module _ (h : 0 < left) {x : Entry} {p : ℕ} (E : Reading at t.stride q d x p) (s : List ℕ)
+      (is : s ≡ take x.count (drop p d)) where
     abbrev rest : List (List ℕ)
     rest = pieces_from t.stride (left - 1) (at + t.stride) q d
 
@@ -341,8 +354,8 @@ holds_at p b q d =
     decides (entry_opcode p q) (order (piece d (entry_offset p q) (entry_count p q)) (take (entry_specimen p q) (drop b q)))
 
 -- The test as the code has read it: x, its place r, its piece s and its specimen u.
-pub read-holds : (b : ℕ) {p : ℕ} {q d s u : List ℕ} {x : TestEntry} {r : Resolved} → x ≡ test_at p q
-    → Reading p test_size q d x.entry r → s ≡ take x.entry.count (drop r.position d)
+pub read-holds : (b : ℕ) {p : ℕ} {q d s u : List ℕ} {x : TestEntry} {r : ℕ} → x ≡ test_at p q
+    → Reading p test_size q d x.entry r → s ≡ take x.entry.count (drop r d)
     → u ≡ body_of (body_at b x.specimen) q → decides x.opcode (order s u) ≡ holds_at p b q d
 read-holds b {p} {q} e E f g =
     let m : b + entry_specimen p q - b ≡ entry_specimen p q = omega arith in

@@ -8,7 +8,7 @@ ghost use Rattle.replies.specs.Pieces.{pieces_in};
 
 use crate::pieces::{LENGTH_SIZE, piece};
 use requests::forms::Table;
-use requests::offsets::resolve;
+use requests::offsets::position;
 
 // The whole reply at the front of the reply space, each length and its piece in one pass; the bytes after it stay.
 pub fn write_reply(d: &[u8], q: &[u8], t: Table, r: &mut [u8])
@@ -16,19 +16,14 @@ pub fn write_reply(d: &[u8], q: &[u8], t: Table, r: &mut [u8])
         × (length (reply_of (pieces_in t q.now d.now)) ≤ length r.old) }
     ensures { r.new ≡ put 0 (reply_of (pieces_in t q.now d.now)) r.old }
 {
-    let mut left = t.count;
     let mut cursor = t.first;
-    let mut to = 0;
-    let mut behind = LENGTH_SIZE * left;
-    while 0 < left {
+    let mut behind = LENGTH_SIZE * t.count;
+    for i in 0..t.count {
         let entry = cursor.entry(q, t.stride);
-        let place = resolve(entry.offset, d.len());
-        let part = piece(d, place.position, entry.count);
-        octets::numbers::put_u32(r, to, part.len() as u32);
+        let part = piece(d, position(entry.offset, d.len()), entry.count);
+        octets::numbers::put_u32(r, LENGTH_SIZE * i, part.len() as u32);
         octets::moves::copy_part(r, behind, part);
-        to += LENGTH_SIZE;
         behind += part.len();
         cursor = entry.next;
-        left -= 1;
     }
 }

@@ -2,6 +2,7 @@
 use mathlib.Core.Path.{◌≡◌, refl, sym, ap, ◌∙◌}
 use mathlib.Core.Bool.{Bool, true, false, cond, true≢false}
 use mathlib.Core.List.{List}
+use mathlib.Core.Option as maybe
 use mathlib.Core.Option.{none, some}
 use Prim.Native.Nat.{ℕ, suc, ◌+◌, ◌-◌, ◌^◌, ◌<◌, ◌≤◌}
 use native.Mathlib.Omega.{arith}
@@ -14,11 +15,11 @@ use mir.Syntax.{w32, w64}
 use mir.Val.{sel, bits, hbits, to_z, of_z, Fits, SFits}
 use mir.ValLaws.{to_z-of_z, to_z-Fits}
 use borrow.Author.Tests.{ltb-true, le-ltb, le-leb, lt-leb}
-use Rattle.requests.specs.declared.offsets.Resolved.{Resolved}
 use Rattle.requests.specs.declared.cursors.Cursor.{Cursor}
 use Rattle.requests.specs.declared.cursors.Body.{Body}
 use Rattle.requests.specs.declared.cursors.Entry.{Entry}
 use Rattle.requests.specs.Offsets.{resolved_of}
+use Rattle.std.specs.Prelude.{Option, Some, None, SomeIff, unwrap_or}
 use Rattle.rules.specs.Testing.{resolve, resolves, position}
 use Rattle.octets.specs.Lists.{is_some, or_else}
 use Rattle.octets.specs.Facts.{Octets}
@@ -30,7 +31,7 @@ use Rattle.requests.specs.Cursors.{body_at, body_of, bytes_from, entry_at}
 
 -- ---- an offset resolved
 above_is : (z : ℤ) (size : ℕ) → le_z (pos 0) z ≡ true
-    → ◌≡◌ {A = Resolved} (record { resolves = true; position = nat_abs z }) (resolved_of z size)
+    → Some (nat_abs z) ≡ resolved_of z size
 unfolding resolve is_some or_else resolves position
 above_is (pos n) size e = refl
 above_is (negsuc n) size e = absurd (true≢false (sym e))
@@ -64,12 +65,12 @@ behind_is (negsuc k) f e =
     record { far = k; is = refl; fits = rw b s; read = rw b (to_z-of_z w32 (pos k) s); small = h }
 
 back_before : (k size : ℕ) → size < k
-    → ◌≡◌ {A = Resolved} (record { resolves = false; position = 0 }) (resolved_of (negsuc k) size)
+    → None ≡ resolved_of (negsuc k) size
 unfolding resolve is_some or_else resolves position
 back_before k size h = rw (lt-leb k size h)
 
 back_inside : (k size : ℕ) → k ≤ size
-    → ◌≡◌ {A = Resolved} (record { resolves = true; position = size - k }) (resolved_of (negsuc k) size)
+    → Some (size - k) ≡ resolved_of (negsuc k) size
 unfolding resolve is_some or_else resolves position
 back_inside k size h = rw (le-leb k size h)
 
@@ -80,7 +81,7 @@ module _ (z : ℤ) (size : ℕ) (f : SFits w32 z) where
     resolved_fits = rw (to_z-of_z w32 z f) (above-fits z f (rw (to_z-of_z w32 z f) at e))
 
     pub resolved-above :
-        ◌≡◌ {A = Resolved} (record { resolves = true; position = nat_abs (to_z w32 (of_z w32 z)) }) (resolved_of z size)
+        Some (nat_abs (to_z w32 (of_z w32 z))) ≡ resolved_of z size
     resolved-above = rw (to_z-of_z w32 z f) (above_is z size (rw (to_z-of_z w32 z f) at e))
 
   -- negative
@@ -91,17 +92,40 @@ module _ (z : ℤ) (size : ℕ) (f : SFits w32 z) where
     pub behind_fits : T (non_neg (to_z w32 (of_z w32 (backed z)))) × Fits w64 (nat_abs (to_z w32 (of_z w32 (backed z))))
     behind_fits = rw behind.read (tt, record { fits = omega (arith, behind.small) })
 
-    pub resolved_before : size < nat_abs (to_z w32 (of_z w32 (backed z)))
-        → ◌≡◌ {A = Resolved} (record { resolves = false; position = 0 }) (resolved_of z size)
-    resolved_before h = rw behind.is (back_before behind.far size (rw behind.read at h))
+    pub resolved-behind : (r : Option ℕ)
+        → SomeIff r (nat_abs (to_z w32 (of_z w32 (backed z))) ≤ size) (size - nat_abs (to_z w32 (of_z w32 (backed z))))
+        → r ≡ resolved_of z size
+    resolved-behind None h =
+        rw behind.is
+        (back_before behind.far size (let n : behind.far ≤ size → ⊥ = rw behind.read at h in omega arith))
+    resolved-behind (Some p) h =
+        rw behind.is (let k : (behind.far ≤ size) × (p ≡ size - behind.far) = rw behind.read at h in
+        ap (λ (n : ℕ). Some n) k.1 ∙ back_inside behind.far size k.0)
 
-    pub resolved_inside : nat_abs (to_z w32 (of_z w32 (backed z))) ≤ size
-        → ◌≡◌ {A = Resolved} (record { resolves = true; position = size - nat_abs (to_z w32 (of_z w32 (backed z))) })
-        (resolved_of z size)
-    resolved_inside h =
-        rw behind.read
-        (back_inside behind.far size (rw behind.read at h)
-        ∙ ap (λ (y : ℤ). resolved_of y size) (sym behind.is))
+-- What it tells: whether the rules give a position, and which.
+pub resolved-some : (z : ℤ) (size p : ℕ) → resolved_of z size ≡ Some p → (resolves z size ≡ true) × (position z size ≡ p)
+unfolding resolves position is_some or_else
+resolved-some z size p e = go (resolve z size) e
+  where
+    go : (w : maybe.Option ℕ) → cond (is_some w) (Some (or_else w 0)) None ≡ Some p → (is_some w ≡ true) × (or_else w 0 ≡ p)
+    go none h = cc
+    go (some n) h = (refl, cc)
+
+pub resolved-none : (z : ℤ) (size : ℕ) → resolved_of z size ≡ None → resolves z size ≡ false
+unfolding resolves position is_some or_else
+resolved-none z size e = go (resolve z size) e
+  where
+    go : (w : maybe.Option ℕ) → cond (is_some w) (Some (or_else w 0)) None ≡ None → is_some w ≡ false
+    go none h = refl
+    go (some n) h = cc
+
+pub resolved-else : (z : ℤ) (size : ℕ) → unwrap_or (resolved_of z size) 0 ≡ position z size
+unfolding resolves position is_some or_else
+resolved-else z size = go (resolve z size)
+  where
+    go : (w : maybe.Option ℕ) → unwrap_or (cond (is_some w) (Some (or_else w 0)) None) 0 ≡ or_else w 0
+    go none = refl
+    go (some n) = refl
 
 -- ---- how large a number of n bytes is: 2^16 and 2^32 are bounds of their fields, and no limits
 pub specimen_below : (p : ℕ) (q : List ℕ) → Octets q → entry_specimen p q < 65536
@@ -125,12 +149,16 @@ offset_fits : (p : ℕ) (q : List ℕ) → Octets q → SFits w32 (entry_offset 
 unfolding entry_offset
 offset_fits p q h = to_z-Fits w32 (number_at 4 p q) (record { fits = number_at-below 4 p q h })
 
-pub entry_resolved : (p : ℕ) (q : List ℕ) (size : ℕ) (z : ℤ) (r : Resolved) → Octets q → z ≡ entry_offset p q
+entry_is : (p : ℕ) (q : List ℕ) (z : ℤ) → Octets q → z ≡ entry_offset p q → to_z w32 (of_z w32 z) ≡ entry_offset p q
+entry_is p q z h e = ap (λ (y : ℤ). to_z w32 (of_z w32 y)) e ∙ to_z-of_z w32 (entry_offset p q) (offset_fits p q h)
+
+pub entry_resolved : (p : ℕ) (q : List ℕ) (size : ℕ) (z : ℤ) (r : Option ℕ) → Octets q → z ≡ entry_offset p q
     → r ≡ resolved_of (to_z w32 (of_z w32 z)) size → r ≡ resolved_of (entry_offset p q) size
-entry_resolved p q size z r h e g =
-    let k : to_z w32 (of_z w32 z) ≡ entry_offset p q =
-    ap (λ (y : ℤ). to_z w32 (of_z w32 y)) e ∙ to_z-of_z w32 (entry_offset p q) (offset_fits p q h) in
-    g ∙ ap (λ (y : ℤ). resolved_of y size) k
+entry_resolved p q size z r h e g = g ∙ ap (λ (y : ℤ). resolved_of y size) (entry_is p q z h e)
+
+pub entry_placed : (p : ℕ) (q : List ℕ) (size : ℕ) (z : ℤ) (r : ℕ) → Octets q → z ≡ entry_offset p q
+    → r ≡ position (to_z w32 (of_z w32 z)) size → r ≡ position (entry_offset p q) size
+entry_placed p q size z r h e g = g ∙ ap (λ (y : ℤ). position y size) (entry_is p q z h e)
 
 -- ---- how far an offset reaches: no further than the size, or than the largest offset
 position_most : (u size m : ℕ) → size ≤ m → 2147483647 ≤ m → position (signed u) size ≤ m

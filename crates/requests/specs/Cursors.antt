@@ -5,8 +5,7 @@ use Rattle.format.specs.Layout.{expiry_at, renewal_at, record_size}
 use Rattle.rules.specs.Requests.{padding_at, test_size, entry_offset, entry_count, entry_opcode, entry_specimen}
 use Rattle.rules.specs.Requests.{secret_at, reads_at}
 use Rattle.requests.specs.declared.cursors.Cursor.{Cursor}
-use Rattle.requests.specs.declared.cursors.Byte.{Byte}
-use Rattle.requests.specs.declared.cursors.Number.{Number}
+use Rattle.requests.specs.declared.cursors.Next.{Next}
 use Rattle.requests.specs.declared.cursors.Body.{Body}
 use Rattle.requests.specs.declared.cursors.Record.{Record}
 use Rattle.requests.specs.declared.cursors.Entry.{Entry}
@@ -14,10 +13,10 @@ use Rattle.requests.specs.declared.cursors.TestEntry.{TestEntry}
 use Rattle.requests.specs.declared.cursors.Header.{Header}
 use Rattle.requests.specs.declared.cursors.ReadHeader.{ReadHeader}
 
-abbrev pub byte_at : ℕ → List ℕ → Byte
+abbrev pub byte_at : ℕ → List ℕ → Next ℕ
 byte_at p q = record { value = get_or q p 0; next = record { at = p + 1 } }
 
-abbrev pub number_in : ℕ → List ℕ → Number
+abbrev pub number_in : ℕ → List ℕ → Next ℕ
 number_in p q = record { value = number_at 4 p q; next = record { at = p + 4 } }
 
 abbrev pub body_at : ℕ → ℕ → Body

@@ -28,16 +28,11 @@ pub struct Cursor {
     pub at: usize,
 }
 
+// A value that was read, and the cursor behind it.
 #[derive(Clone, Copy)]
-pub struct Byte {
-    pub value: u8,
+pub struct Next<T> {
+    pub value: T,
     pub next: Cursor,
-}
-
-#[derive(Clone, Copy)]
-pub(crate) struct Number {
-    pub(crate) value: u32,
-    pub(crate) next: Cursor,
 }
 
 // A run of bytes: where it begins and ends.
@@ -100,9 +95,7 @@ impl Body {
         requires { (self.from ≤ self.to) × (self.to ≤ length q.now) }
         ensures { result.now ≡ body_of self q.now }
     {
-        let from = self.from;
-        let to = self.to;
-        &q[from..to]
+        &q[self.from..self.to]
     }
 }
 
@@ -113,27 +106,24 @@ impl Cursor {
         Cursor { at: 0 }
     }
 
-    pub fn byte(self, q: &[u8]) -> Byte
+    pub fn byte(self, q: &[u8]) -> Next<u8>
         requires { self.at + 1 ≤ length q.now }
         ensures { result ≡ byte_at self.at q.now }
     {
-        let at = self.at;
-        Byte {
-            value: q[at],
-            next: Cursor { at: at + 1 },
+        Next {
+            value: q[self.at],
+            next: Cursor { at: self.at + 1 },
         }
     }
 
     // An unsigned number of 4 bytes.
-    pub(crate) fn number(self, q: &[u8]) -> Number
+    pub(crate) fn number(self, q: &[u8]) -> Next<u32>
         requires { self.at + 4 ≤ length q.now }
         ensures { result ≡ number_in self.at q.now }
     {
-        let at = self.at;
-        let value = octets::numbers::u32_at(q, at);
-        Number {
-            value: value,
-            next: Cursor { at: at + 4 },
+        Next {
+            value: octets::numbers::u32_at(q, self.at),
+            next: Cursor { at: self.at + 4 },
         }
     }
 
@@ -142,11 +132,10 @@ impl Cursor {
         requires { self.at + n ≤ length q.now }
         ensures { result ≡ body_at self.at n }
     {
-        let at = self.at;
-        let to = at + n;
+        let to = self.at + n;
         Body {
-            from: at,
-            to: to,
+            from: self.at,
+            to,
             next: Cursor { at: to },
         }
     }
@@ -159,13 +148,12 @@ impl Cursor {
         let owner = self.number(q);
         let expiry = owner.next.number(q);
         let renewal = expiry.next;
-        let next = self.body(q, RECORD_SIZE).next;
         Record {
             owner: owner.value,
             expiry: expiry.value,
-            renewal: renewal,
+            renewal,
             whole: self,
-            next: next,
+            next: self.body(q, RECORD_SIZE).next,
         }
     }
 
@@ -174,13 +162,12 @@ impl Cursor {
         requires { (entry_size ≤ stride) × (self.at + stride ≤ length q.now) }
         ensures { result ≡ entry_at self.at stride q.now }
     {
-        let at = self.at;
-        let offset = octets::numbers::i32_at(q, at);
-        let count = octets::numbers::u32_at(q, at + 4) as usize;
         Entry {
-            offset: offset,
-            count: count,
-            next: Cursor { at: at + stride },
+            offset: octets::numbers::i32_at(q, self.at),
+            count: octets::numbers::u32_at(q, self.at + 4) as usize,
+            next: Cursor {
+                at: self.at + stride,
+            },
         }
     }
 
@@ -189,16 +176,13 @@ impl Cursor {
         requires { self.at + test_size ≤ length q.now }
         ensures { result ≡ test_at self.at q.now }
     {
-        let at = self.at;
         let entry = self.entry(q, TEST_SIZE);
-        let next = entry.next;
-        let specimen = octets::numbers::u16_at(q, at + SPECIMEN_AT) as usize;
         TestEntry {
-            entry: entry,
-            opcode: q[at + ENTRY_SIZE],
-            padding: q[at + PADDING_AT],
-            specimen: specimen,
-            next: next,
+            entry,
+            opcode: q[self.at + ENTRY_SIZE],
+            padding: q[self.at + PADDING_AT],
+            specimen: octets::numbers::u16_at(q, self.at + SPECIMEN_AT) as usize,
+            next: entry.next,
         }
     }
 
@@ -207,18 +191,13 @@ impl Cursor {
         requires { self.at + header_size ≤ length q.now }
         ensures { result ≡ header_at self.at q.now }
     {
-        let at = self.at;
-        let tests = q[at] as usize;
-        let writes = q[at + 1] as usize;
-        let flag = q[at + 2] as usize;
-        let new = octets::numbers::u32_at(q, at + 3) as usize;
         Header {
-            tests: tests,
-            writes: writes,
-            flag: flag,
-            new: new,
+            tests: q[self.at] as usize,
+            writes: q[self.at + 1] as usize,
+            flag: q[self.at + 2] as usize,
+            new: octets::numbers::u32_at(q, self.at + 3) as usize,
             next: Cursor {
-                at: at + HEADER_SIZE,
+                at: self.at + HEADER_SIZE,
             },
         }
     }
@@ -228,14 +207,12 @@ impl Cursor {
         requires { self.at + read_header_size ≤ length q.now }
         ensures { result ≡ read_header_at self.at q.now }
     {
-        let at = self.at;
-        let reads = q[at] as usize;
         ReadHeader {
-            reads: reads,
-            first: q[at + 1],
-            second: q[at + 2],
+            reads: q[self.at] as usize,
+            first: q[self.at + 1],
+            second: q[self.at + 2],
             next: Cursor {
-                at: at + READ_HEADER_SIZE,
+                at: self.at + READ_HEADER_SIZE,
             },
         }
     }

@@ -3,4 +3,5 @@
 
 pub mod cursors;
 pub mod forms;
+pub mod kinds;
 pub mod offsets;

@@ -14,6 +14,16 @@ use Rattle.octets.specs.Rows.{first_row}
 use Rattle.rules.specs.Outcomes.{request_rows, replies, answer_of, no_node, answer_to, outcome, answered}
 use Rattle.rules.specs.Outcomes.{container_after, reply_after}
 use Rattle.rules.proofs.OutcomeLaws.{outcome_formed}
+use Rattle.std.specs.Prelude.{Err}
+use Rattle.format.specs.Judging.{Judges}
+use Rattle.format.specs.declared.judging.Flaw.{Flaw}
+use Rattle.format.specs.declared.judging.Flaw.TheVariants.{BadLength, Malformed}
+use Rattle.format.proofs.JudgingLaws.{judged-length, judged-malformed}
+use Rattle.rules.specs.Refusals.{number_of, refusal_of}
+use Rattle.rules.specs.declared.outcomes.Refusal.{Refusal}
+use Rattle.rules.specs.declared.outcomes.Refusal.TheVariants as refusal
+use Rattle.rules.specs.declared.outcomes.Refusal.TheVariants.{BadRequest, BeforeStart, WrongEnabler, ShortReply, NoLease}
+use Rattle.rules.specs.declared.outcomes.Refusal.TheVariants.{LeasesFull, NoRoom, AlreadyContainer, TooManyStretches, BadList}
 
 -- A call that is answered n, with no node id and no count, and leaves container and reply space as they were.
 pub record Refused (n : ℕ) (c q r : List ℕ) : Type 0 where
@@ -59,6 +69,42 @@ bad_length c q r e = silent-refused 1 c q r silent1 (rw e)
 pub malformed : (c q r : List ℕ) → length_allowed c ≡ true → well_formed c ≡ false → Refused 2 c q r
 unfolding outcome first_row
 malformed c q r l e = silent-refused 2 c q r silent2 (rw (l, e))
+
+-- every refusal but the one that names the node
+pub refusal_silent : (e : Refusal) → (e ≡ WrongEnabler → ⊥) → Silent (number_of e)
+unfolding replies
+refusal_silent refusal.BadLength h = record { not_done = refl; no_node_holds = refl; no_reply = refl }
+refusal_silent refusal.Malformed h = record { not_done = refl; no_node_holds = refl; no_reply = refl }
+refusal_silent BadRequest h = record { not_done = refl; no_node_holds = refl; no_reply = refl }
+refusal_silent BeforeStart h = record { not_done = refl; no_node_holds = refl; no_reply = refl }
+refusal_silent ShortReply h = record { not_done = refl; no_node_holds = refl; no_reply = refl }
+refusal_silent NoLease h = record { not_done = refl; no_node_holds = refl; no_reply = refl }
+refusal_silent LeasesFull h = record { not_done = refl; no_node_holds = refl; no_reply = refl }
+refusal_silent NoRoom h = record { not_done = refl; no_node_holds = refl; no_reply = refl }
+refusal_silent AlreadyContainer h = record { not_done = refl; no_node_holds = refl; no_reply = refl }
+refusal_silent TooManyStretches h = record { not_done = refl; no_node_holds = refl; no_reply = refl }
+refusal_silent BadList h = record { not_done = refl; no_node_holds = refl; no_reply = refl }
+refusal_silent WrongEnabler h = absurd (h refl)
+
+pub refusal_replies : (e : Refusal) → replies (number_of e) ≡ false
+unfolding replies
+refusal_replies refusal.BadLength = refl
+refusal_replies refusal.Malformed = refl
+refusal_replies BadRequest = refl
+refusal_replies BeforeStart = refl
+refusal_replies WrongEnabler = refl
+refusal_replies ShortReply = refl
+refusal_replies NoLease = refl
+refusal_replies LeasesFull = refl
+refusal_replies NoRoom = refl
+refusal_replies AlreadyContainer = refl
+refusal_replies TooManyStretches = refl
+refusal_replies BadList = refl
+
+-- a buffer that is no container, by what judging it answers
+pub flawed : (e : Flaw) (c q r : List ℕ) → Judges c (Err e) → Refused (number_of (refusal_of e)) c q r
+flawed BadLength c q r j = bad_length c q r (judged-length c j)
+flawed Malformed c q r j = let m = judged-malformed c j in malformed c q r m.0 m.1
 
 pub broken : (c q r : List ℕ) → well_formed c ≡ true → request_of q ≡ none → Refused 3 c q r
 unfolding first_row request_rows

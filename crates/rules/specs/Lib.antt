@@ -6,6 +6,7 @@ pub mod Sizes
 pub mod Changes
 pub mod Leasing
 pub mod Outcomes
+pub mod Refusals
 pub mod Offsets
 pub mod Claims
 pub mod Stretch

@@ -1,5 +1,6 @@
 -- Rows 27 and 28: rounding up, and the sizes of tree and blocks. Assumes nothing.
-use mathlib.Core.Path.{◌≡◌, refl}
+use Rattle.std.specs.Prelude.{min}
+use mathlib.Core.Path.{◌≡◌, refl, ◌∙◌}
 use mathlib.Core.Bool.{Bool, true, false}
 use Prim.Native.Nat.{ℕ, suc, ◌+◌, ◌*◌, ◌-◌, ◌/◌, ◌%◌, ◌≤◌, ◌<◌}
 use native.Mathlib.Nat.{mod-lt, div-add-mod', suc-mul, div-eq_of_lt-le, div-lt_iff_lt-mul}
@@ -33,6 +34,18 @@ rounded_more n k p h =
       add-one (n / k),
       add-one (suc (n / k)),
     ))
+
+-- As the library forms it.
+pub rounded-ceil : (n k : ℕ) → 0 < k → rounded_up n k ≡ n / k + min 1 (n % k)
+rounded-ceil n k p = go (eqb (n % k) 0) refl
+  where
+    go : (t : Bool) → eqb (n % k) 0 ≡ t → rounded_up n k ≡ n / k + min 1 (n % k)
+    go true e =
+        let z : n % k ≡ 0 = eqb-true _ _ e in
+        rounded_whole n k p z ∙ omega (arith, z)
+    go false e =
+        let z : n % k ≡ 0 → ⊥ = eqb-false _ _ e in
+        rounded_more n k p z ∙ omega (arith, z)
 
 -- The claim about rounding up.
 pub rounded_least : RoundedIsLeast

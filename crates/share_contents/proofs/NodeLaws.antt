@@ -30,6 +30,21 @@ nodes-some (suc n) p s h =
     let k : suc n - 1 ≡ n = omega arith in
     rw k
 
+-- All of them are left, and those that are left after one.
+pub all_nodes : (n p : ℕ) (s : List ℕ) → nodes_from (n - 0) (p + chain_entry_size * 0) s ≡ nodes_from n p s
+all_nodes n p s =
+    let k : n - 0 ≡ n = omega arith in
+    let l : p + chain_entry_size * 0 ≡ p = omega arith in
+    rw (k, l)
+
+pub next_nodes : (n p i : ℕ) (s : List ℕ)
+    → nodes_from (n - i - 1) (p + chain_entry_size * i + chain_entry_size) s
+    ≡ nodes_from (n - (i + 1)) (p + chain_entry_size * (i + 1)) s
+next_nodes n p i s =
+    let k : n - i - 1 ≡ n - (i + 1) = omega arith in
+    let l : p + chain_entry_size * i + chain_entry_size ≡ p + chain_entry_size * (i + 1) = omega arith in
+    rw (k, l)
+
 pub occurs_hit : (x n p : ℕ) (s : List ℕ) → 0 < n → x ≡ number_at 2 p s → any_of (eqb x) (nodes_from n p s) ≡ true
 unfolding any_of
 occurs_hit x n p s h e = rw (nodes-some n p s h, eq-eqb _ _ e)

@@ -2,3 +2,4 @@
 pub mod Nodes
 pub mod Contents
 pub mod Claims
+pub mod Faults

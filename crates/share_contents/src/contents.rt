@@ -2,14 +2,17 @@
 ghost use Rattle.std.specs.Prelude.{◌≡◌, true, false, ◌<◌, eqb, length};
 ghost use Rattle.octets.specs.Rows.{first_row};
 ghost use Rattle.share_numbers.specs.Coding.{segment_ok};
-ghost use Rattle.share_contents.specs.Contents.{chain_ok, rounded_up, segments, tree_size, tree_ok, blocks_size};
+ghost use Rattle.share_format.specs.Editions.{is_mdmf};
+ghost use Rattle.share_contents.specs.Faults.{outcome_of};
+ghost use Rattle.share_contents.specs.Contents.{chain_ok, segments, tree_size, tree_ok, blocks_size};
 ghost use Rattle.share_contents.specs.Contents.{blocks_ok, content_rows};
 
+use crate::faults::Fault;
 use crate::nodes;
-use share_format::header::{HASH_SIZE, SALT_SIZE};
+use share_format::header::{Edition, HASH_SIZE, Numbers, SALT_SIZE};
 
 // A sequence number that no later one can follow.
-const LAST_SEQUENCE: u64 = 18446744073709551615;
+const LAST_SEQUENCE: u64 = u64::MAX;
 
 // Row 26.
 fn chain_ok(total: u8, chain: &[u8]) -> bool
@@ -22,14 +25,6 @@ fn chain_ok(total: u8, chain: &[u8]) -> bool
     nodes::nodes_ok(chain, 2 * over.leaves - 1, over.depth, 0)
 }
 
-// n / k rounded up. The sum that the definition has may exceed 64 bits, so none is formed.
-fn rounded_up(n: u64, k: u64) -> u64
-    requires { 0 < k }
-    ensures { result ≡ rounded_up n k }
-{
-    if n % k == 0 { n / k } else { n / k + 1 }
-}
-
 fn segments(data_length: u64, segment: u64) -> u64
     requires { segment ≡ 0 → data_length ≡ 0 }
     ensures { result ≡ segments data_length segment }
@@ -37,21 +32,16 @@ fn segments(data_length: u64, segment: u64) -> u64
     if data_length == 0 {
         0
     } else {
-        rounded_up(data_length, segment)
+        data_length.div_ceil(segment)
     }
 }
 
 // Row 27 for SDMF.
+#[tactic(auto, unfolding(crate::specs::Contents::tree_ok))]
 fn one_hash_ok(data_length: u64, tree: &[u8]) -> bool
     ensures { result ≡ tree_ok false 0 data_length tree.now }
 {
-    if tree.len() == HASH_SIZE {
-        return true;
-    }
-    if data_length != 0 {
-        return false;
-    }
-    tree.len() == 0
+    tree.len() == HASH_SIZE || data_length == 0 && tree.len() == 0
 }
 
 // Row 27 for MDMF. The size of a tree over so many segments may exceed 64 bits: it is formed only where the tree has a
@@ -74,14 +64,13 @@ fn full_tree_ok(n: u64, tree: &[u8]) -> bool
 }
 
 // Row 27.
-fn tree_ok(mdmf: bool, segment: u64, data_length: u64, tree: &[u8]) -> bool
-    requires { mdmf ≡ true → segment ≡ 0 → data_length ≡ 0 }
-    ensures { result ≡ tree_ok mdmf segment data_length tree.now }
+fn tree_ok(edition: Edition, segment: u64, data_length: u64, tree: &[u8]) -> bool
+    requires { is_mdmf edition ≡ true → segment ≡ 0 → data_length ≡ 0 }
+    ensures { result ≡ tree_ok (is_mdmf edition) segment data_length tree.now }
 {
-    if mdmf {
-        full_tree_ok(segments(data_length, segment), tree)
-    } else {
-        one_hash_ok(data_length, tree)
+    match edition {
+        Edition::Sdmf => one_hash_ok(data_length, tree),
+        Edition::Mdmf => full_tree_ok(segments(data_length, segment), tree),
     }
 }
 
@@ -95,50 +84,54 @@ fn salted_ok(n: u64, k: u64, data_length: u64, share_data: &[u8]) -> bool
     if size / salt < n {
         return false;
     }
-    size - salt * n == rounded_up(data_length, k)
+    size - salt * n == data_length.div_ceil(k)
 }
 
 // Row 28.
-fn blocks_ok(mdmf: bool, segment: u64, k: u64, data_length: u64, share_data: &[u8]) -> bool
-    requires { (0 < k) × (mdmf ≡ true → segment ≡ 0 → data_length ≡ 0) }
-    ensures { result ≡ blocks_ok mdmf segment k data_length share_data.now }
+fn blocks_ok(edition: Edition, segment: u64, k: u64, data_length: u64, share_data: &[u8]) -> bool
+    requires { (0 < k) × (is_mdmf edition ≡ true → segment ≡ 0 → data_length ≡ 0) }
+    ensures { result ≡ blocks_ok (is_mdmf edition) segment k data_length share_data.now }
 {
-    if mdmf {
-        salted_ok(segments(data_length, segment), k, data_length, share_data)
-    } else {
-        share_data.len() as u64 == segment / k
+    match edition {
+        Edition::Sdmf => share_data.len() as u64 == segment / k,
+        Edition::Mdmf => salted_ok(segments(data_length, segment), k, data_length, share_data),
     }
 }
 
 // Rows 26 to 29, of numbers and parts that stand in a share or shall go into one.
 pub fn content_outcome(
-    mdmf: bool,
-    sequence: u64,
-    k: u8,
-    n: u8,
-    segment: u64,
-    data_length: u64,
+    edition: Edition,
+    numbers: Numbers,
     chain: &[u8],
     tree: &[u8],
     share_data: &[u8],
-) -> u32
-    requires { (0 < k) × (segment_ok mdmf segment k data_length ≡ true) }
-    ensures { result
+) -> Result<(), Fault>
+    requires { (0 < numbers.required)
+        × (segment_ok (is_mdmf edition) numbers.segment_size numbers.required numbers.data_length ≡ true) }
+    ensures { outcome_of result
         ≡ first_row
-        (content_rows mdmf sequence k n segment data_length chain.now tree.now
-        share_data.now) }
+        (content_rows (is_mdmf edition) numbers.sequence numbers.required numbers.total
+        numbers.segment_size numbers.data_length chain.now tree.now share_data.now) }
 {
-    if !chain_ok(n, chain) {
-        return 26;
+    let segment = numbers.segment_size;
+    let data_length = numbers.data_length;
+    if !chain_ok(numbers.total, chain) {
+        return Err(Fault::HashChain);
     }
-    if !tree_ok(mdmf, segment, data_length, tree) {
-        return 27;
+    if !tree_ok(edition, segment, data_length, tree) {
+        return Err(Fault::BlockTree);
     }
-    if !blocks_ok(mdmf, segment, k as u64, data_length, share_data) {
-        return 28;
+    if !blocks_ok(
+        edition,
+        segment,
+        numbers.required as u64,
+        data_length,
+        share_data,
+    ) {
+        return Err(Fault::ShareData);
     }
-    if sequence == LAST_SEQUENCE {
-        return 29;
+    if numbers.sequence == LAST_SEQUENCE {
+        return Err(Fault::Sequence);
     }
-    0
+    Ok(())
 }

@@ -2,4 +2,5 @@
 #![tactic(auto)]
 
 pub mod contents;
+pub mod faults;
 mod nodes;

@@ -23,6 +23,7 @@ pub(crate) fn tree_over(n: u64) -> Over
 {
     let mut depth = 0;
     let mut leaves = 1;
+    // No count: it ends where the leaves are enough.
     while leaves < n {
         leaves = 2 * leaves;
         depth += 1;
@@ -35,14 +36,10 @@ fn occurs(s: &[u8], x: u16, n: usize, p: usize) -> bool
     requires { p + chain_entry_size * n ≤ length s.now }
     ensures { result ≡ any_of (eqb x) (nodes_from n p s.now) }
 {
-    let mut left = n;
-    let mut at = p;
-    while 0 < left {
-        if x == numbers::u16_at(s, at) {
+    for i in 0..n {
+        if x == numbers::u16_at(s, p + CHAIN_ENTRY_SIZE * i) {
             return true;
         }
-        left -= 1;
-        at += CHAIN_ENTRY_SIZE;
     }
     false
 }
@@ -52,16 +49,14 @@ pub(crate) fn nodes_ok(s: &[u8], top: u64, n: usize, p: usize) -> bool
     requires { p + chain_entry_size * n ≤ length s.now }
     ensures { result ≡ nodes_ok top (nodes_from n p s.now) }
 {
-    let mut left = n;
-    let mut at = p;
-    while 0 < left {
+    for i in 0..n {
+        let at = p + CHAIN_ENTRY_SIZE * i;
         let x = numbers::u16_at(s, at);
         if top <= x as u64 {
             return false;
         }
-        left -= 1;
-        at += CHAIN_ENTRY_SIZE;
-        if occurs(s, x, left, at) {
+        let again = occurs(s, x, n - i - 1, at + CHAIN_ENTRY_SIZE);
+        if again {
             return false;
         }
     }

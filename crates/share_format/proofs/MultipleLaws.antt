@@ -2,7 +2,7 @@
 use mathlib.Core.Path.{◌≡◌, refl, ◌∙◌}
 use mathlib.Core.Bool.{Bool, true, false, cond}
 use Prim.Native.Nat.{ℕ, ◌+◌, ◌*◌, ◌-◌, ◌/◌, ◌%◌, ◌≤◌, ◌<◌}
-use native.Mathlib.Nat.{mod-lt, mod-le, div-add-mod', add-mod_right, mul-mod_left, mul-le-mul_right, suc-mul}
+use native.Mathlib.Nat.{mod-lt, mod-eq_of_lt, mod_self, mod-le, div-add-mod', add-mod_right, mul-mod_left, mul-le-mul_right, suc-mul}
 use native.Mathlib.Omega.{arith}
 use lib.Dec.{eqb, leb}
 use borrow.Author.Tests.{eqb-true, eqb-false, leb-true, leb-false, eq-eqb, ne_eqb}
@@ -16,6 +16,20 @@ least_whole k n h = rw (eq-eqb _ _ h)
 pub least_more : (k n : ℕ) → 0 < k → (n % k ≡ 0 → ⊥) → least_multiple k n ≡ n + (k - n % k)
 unfolding least_multiple
 least_more k n p h = rw (ne_eqb _ _ h) (omega (arith, mod-lt n p, mod-le n k))
+
+-- As the library forms it.
+pub least-next : (k n : ℕ) → 0 < k → least_multiple k n ≡ n + (k - n % k) % k
+least-next k n p = go (eqb (n % k) 0) refl
+  where
+    go : (t : Bool) → eqb (n % k) 0 ≡ t → least_multiple k n ≡ n + (k - n % k) % k
+    go true e =
+        let z : n % k ≡ 0 = eqb-true _ _ e in
+        let s : k - n % k ≡ k = omega (arith, z) in
+        least_whole k n z ∙ rw (s, mod_self k) (omega arith)
+    go false e =
+        let z : n % k ≡ 0 → ⊥ = eqb-false _ _ e in
+        let l : k - n % k < k = omega (arith, z, mod-lt n p) in
+        least_more k n p z ∙ rw (mod-eq_of_lt l)
 
 -- The claim about the least multiple: a multiple, at or above n, and none below it is.
 whole_least : (k n : ℕ) → n % k ≡ 0 → Least k n n

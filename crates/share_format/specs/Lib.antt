@@ -2,5 +2,6 @@
 pub mod Bounds
 pub mod Header
 pub mod Parts
+pub mod Editions
 pub mod Facts
 pub mod Claims

@@ -10,17 +10,15 @@ pub fn in_order(bounds: &[u64], least: &[u64]) -> bool
     ensures { result
         ≡ in_order least.now (get_or bounds.now 0 0) (drop 1 bounds.now) }
 {
-    let mut i = 0;
-    while i < least.len() {
+    for (i, &m) in least.iter().enumerate() {
         let a = bounds[i];
         let b = bounds[i + 1];
         if b < a {
             return false;
         }
-        if b - a < least[i] {
+        if b - a < m {
             return false;
         }
-        i += 1;
     }
     true
 }

@@ -1,9 +1,10 @@
 // The header's fields, each at its place in its edition's table (docs/RULES.md, S1 to S15, S34, S45 to S51).
 ghost use Rattle.std.specs.Prelude.{◌≡◌, true, false, ◌≤◌, ◌<◌, length};
+ghost use Rattle.share_format.specs.Editions.{is_mdmf, numbers_of};
 ghost use Rattle.share_format.specs.Header.{edition_of, version_of, iv_size, header_size, required_at, version};
-ghost use Rattle.share_format.specs.Header.{sequence, required, total, segment_size, data_length, bounds_of};
+ghost use Rattle.share_format.specs.Header.{bounds_of};
 
-use octets::{moves, numbers};
+use octets::numbers;
 
 // The sizes of the fields: a hash, which R is; a salt, which IV is; a number; SDMF's first four offsets; all others.
 pub const HASH_SIZE: usize = 32;
@@ -64,45 +65,96 @@ const SDMF_VERSION: u8 = 0;
 
 pub const MDMF_VERSION: u8 = 1;
 
-// The header's length; the first part stands after it.
-pub fn size(mdmf: bool) -> u64
-    ensures { result ≡ header_size mdmf }
-{
-    if mdmf { MDMF_SIZE } else { SDMF_SIZE }
+// The two editions of a share.
+#[derive(Clone, Copy, Debug, PartialEq, Eq)]
+pub enum Edition {
+    Sdmf,
+    Mdmf,
 }
 
-// MDMF has no IV.
-pub fn iv_size(mdmf: bool) -> usize
-    ensures { result ≡ iv_size mdmf }
-{
-    if mdmf { 0 } else { SALT_SIZE }
-}
+impl Edition {
+    // The edition that the first byte names; any but MDMF's, and none, names SDMF.
+    pub fn of(s: &[u8]) -> Edition
+        ensures { is_mdmf result ≡ edition_of s.now }
+    {
+        if s.len() == 0 {
+            return Edition::Sdmf;
+        }
+        if s[VERSION_AT] == MDMF_VERSION {
+            Edition::Mdmf
+        } else {
+            Edition::Sdmf
+        }
+    }
 
-// Where k stands.
-fn required_at(mdmf: bool) -> usize
-    ensures { result ≡ required_at mdmf }
-{
-    if mdmf {
-        MDMF_REQUIRED_AT
-    } else {
-        SDMF_REQUIRED_AT
+    // The version byte.
+    pub fn version(self) -> u8
+        ensures { result ≡ version_of (is_mdmf self) }
+    {
+        match self {
+            Edition::Sdmf => SDMF_VERSION,
+            Edition::Mdmf => MDMF_VERSION,
+        }
+    }
+
+    // The header's length; the first part stands after it.
+    pub fn header_size(self) -> u64
+        ensures { result ≡ header_size (is_mdmf self) }
+    {
+        match self {
+            Edition::Sdmf => SDMF_SIZE,
+            Edition::Mdmf => MDMF_SIZE,
+        }
+    }
+
+    // MDMF has no IV.
+    pub fn iv_size(self) -> usize
+        ensures { result ≡ iv_size (is_mdmf self) }
+    {
+        match self {
+            Edition::Sdmf => SALT_SIZE,
+            Edition::Mdmf => 0,
+        }
+    }
+
+    // Where k stands.
+    fn required_at(self) -> usize
+        ensures { result ≡ required_at (is_mdmf self) }
+    {
+        match self {
+            Edition::Sdmf => SDMF_REQUIRED_AT,
+            Edition::Mdmf => MDMF_REQUIRED_AT,
+        }
     }
 }
 
-pub fn version_of(mdmf: bool) -> u8
-    ensures { result ≡ version_of mdmf }
-{
-    if mdmf { MDMF_VERSION } else { SDMF_VERSION }
+// The numbers that stand in a header, but for the version and the offsets.
+#[derive(Clone, Copy, Debug, PartialEq, Eq)]
+pub struct Numbers {
+    pub sequence: u64,
+    // k: how many shares are enough.
+    pub required: u8,
+    // N: how many shares there are.
+    pub total: u8,
+    pub segment_size: u64,
+    pub data_length: u64,
 }
 
-// Whether the first byte names MDMF.
-pub fn is_mdmf(s: &[u8]) -> bool
-    ensures { result ≡ edition_of s.now }
-{
-    if s.len() == 0 {
-        return false;
+impl Numbers {
+    // The numbers as a share's header has them.
+    pub fn read(s: &[u8], edition: Edition) -> Numbers
+        requires { header_size (is_mdmf edition) ≤ length s.now }
+        ensures { result ≡ numbers_of (is_mdmf edition) s.now }
+    {
+        let at = edition.required_at();
+        Numbers {
+            sequence: numbers::u64_at(s, SEQUENCE_AT),
+            required: s[at],
+            total: s[at + TO_TOTAL],
+            segment_size: numbers::u64_at(s, at + TO_SEGMENT),
+            data_length: numbers::u64_at(s, at + TO_LENGTH),
+        }
     }
-    s[VERSION_AT] == MDMF_VERSION
 }
 
 pub fn version(s: &[u8]) -> u8
@@ -110,45 +162,6 @@ pub fn version(s: &[u8]) -> u8
     ensures { result ≡ version s.now }
 {
     s[VERSION_AT]
-}
-
-pub fn sequence(s: &[u8], mdmf: bool) -> u64
-    requires { header_size mdmf ≤ length s.now }
-    ensures { result ≡ sequence s.now }
-{
-    numbers::u64_at(s, SEQUENCE_AT)
-}
-
-// k: how many shares are enough.
-pub fn required(s: &[u8], mdmf: bool) -> u8
-    requires { header_size mdmf ≤ length s.now }
-    ensures { result ≡ required mdmf s.now }
-{
-    let at = required_at(mdmf);
-    s[at]
-}
-
-// N: how many shares there are.
-pub fn total(s: &[u8], mdmf: bool) -> u8
-    requires { header_size mdmf ≤ length s.now }
-    ensures { result ≡ total mdmf s.now }
-{
-    let at = required_at(mdmf) + TO_TOTAL;
-    s[at]
-}
-
-pub fn segment_size(s: &[u8], mdmf: bool) -> u64
-    requires { header_size mdmf ≤ length s.now }
-    ensures { result ≡ segment_size mdmf s.now }
-{
-    numbers::u64_at(s, required_at(mdmf) + TO_SEGMENT)
-}
-
-pub fn data_length(s: &[u8], mdmf: bool) -> u64
-    requires { header_size mdmf ≤ length s.now }
-    ensures { result ≡ data_length mdmf s.now }
-{
-    numbers::u64_at(s, required_at(mdmf) + TO_LENGTH)
 }
 
 // The boundaries of SDMF's parts. It has no seventh, so the end stands twice.
@@ -186,9 +199,12 @@ fn mdmf_bounds(s: &[u8]) -> [u64; 8]
 }
 
 // The boundaries of the parts, as the header has them.
-pub fn bounds(s: &[u8], mdmf: bool) -> [u64; 8]
-    requires { header_size mdmf ≤ length s.now }
-    ensures { result ≡ bounds_of mdmf s.now }
+pub fn bounds(s: &[u8], edition: Edition) -> [u64; 8]
+    requires { header_size (is_mdmf edition) ≤ length s.now }
+    ensures { result ≡ bounds_of (is_mdmf edition) s.now }
 {
-    if mdmf { mdmf_bounds(s) } else { sdmf_bounds(s) }
+    match edition {
+        Edition::Sdmf => sdmf_bounds(s),
+        Edition::Mdmf => mdmf_bounds(s),
+    }
 }

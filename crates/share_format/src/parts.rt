@@ -1,55 +1,46 @@
 // Which part of a share has which name (docs/RULES.md, S34, S51).
-ghost use Rattle.std.specs.Prelude.{◌≡◌};
-ghost use Rattle.share_format.specs.Parts.{chain_part, tree_part, share_data_part};
+ghost use Rattle.std.specs.Prelude.{◌≡◌, ◌<◌};
+ghost use Rattle.share_format.specs.Editions.{is_mdmf, part_number};
 
-// SDMF has six parts; a seventh, which is empty, stands for the spare bytes.
-pub const SDMF_KEY: usize = 0;
+use crate::header::Edition;
 
-pub const SDMF_SIGNATURE: usize = 1;
-
-pub const SDMF_CHAIN: usize = 2;
-
-pub const SDMF_TREE: usize = 3;
-
-pub const SDMF_SHARE_DATA: usize = 4;
-
-pub const SDMF_PRIVATE_KEY: usize = 5;
-
-pub const SDMF_SPARE: usize = 6;
-
-pub const MDMF_PRIVATE_KEY: usize = 0;
-
-pub const MDMF_CHAIN: usize = 1;
-
-pub const MDMF_SIGNATURE: usize = 2;
-
-pub const MDMF_KEY: usize = 3;
-
-pub const MDMF_SPARE: usize = 4;
-
-pub const MDMF_SHARE_DATA: usize = 5;
-
-pub const MDMF_TREE: usize = 6;
-
-// The three that the rows look into.
-pub fn chain_part(mdmf: bool) -> usize
-    ensures { result ≡ chain_part mdmf }
-{
-    if mdmf { MDMF_CHAIN } else { SDMF_CHAIN }
+// The parts by name. SDMF has no spare bytes: an empty seventh part stands for them.
+#[derive(Clone, Copy, Debug, PartialEq, Eq)]
+pub enum Part {
+    Key,
+    Signature,
+    Chain,
+    Tree,
+    ShareData,
+    PrivateKey,
+    Spare,
 }
 
-pub fn tree_part(mdmf: bool) -> usize
-    ensures { result ≡ tree_part mdmf }
-{
-    if mdmf { MDMF_TREE } else { SDMF_TREE }
-}
-
-pub fn share_data_part(mdmf: bool) -> usize
-    ensures { result ≡ share_data_part mdmf }
-{
-    if mdmf {
-        MDMF_SHARE_DATA
-    } else {
-        SDMF_SHARE_DATA
+impl Part {
+    // The part's number among the seven, in the order in which they lie.
+    pub fn number(self, edition: Edition) -> usize
+        ensures is { result ≡ part_number self (is_mdmf edition) }
+        ensures below { result < 7 }
+    {
+        match edition {
+            Edition::Sdmf => match self {
+                Part::Key => 0,
+                Part::Signature => 1,
+                Part::Chain => 2,
+                Part::Tree => 3,
+                Part::ShareData => 4,
+                Part::PrivateKey => 5,
+                Part::Spare => 6,
+            },
+            Edition::Mdmf => match self {
+                Part::PrivateKey => 0,
+                Part::Chain => 1,
+                Part::Signature => 2,
+                Part::Key => 3,
+                Part::Spare => 4,
+                Part::ShareData => 5,
+                Part::Tree => 6,
+            },
+        }
     }
 }

@@ -61,9 +61,6 @@ module _ (e : Edition) (bs s : List ℕ) (h : placed_ok e bs ≡ true) (l : get_
       let p = placed_part i k in
       record { rises = rw add-one (omega (arith, p.0)); fits = rw add-one p.1 }
 
-  pub placed-least : (i : ℕ) → i < 7 → get_or bs i 0 + get_or (least_sizes e) i 0 ≤ get_or bs (suc i) 0
-  placed-least i k = (placed_part i k).0
-
 -- ---- boundaries as they come
 pub placed-false : (e : Edition) (bs : List ℕ) → (get_or bs 0 0 ≡ header_size e → ⊥) → placed_ok e bs ≡ false
 unfolding placed_ok

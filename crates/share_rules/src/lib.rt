@@ -2,7 +2,7 @@
 // proofs/.
 #![tactic(auto)]
 
-// The outcome's number, and on 0 the share's length.
+// The C interface's record: the outcome's number, and on 0 the share's length.
 #[repr(C)]
 #[derive(Clone, Copy)]
 pub struct Written {

@@ -4,48 +4,40 @@ ghost use Rattle.std.specs.Prelude.{◌≡◌, true, false, ◌++◌, ◌≤◌,
 ghost use Rattle.octets.specs.Facts.{Each, Fits64};
 ghost use Rattle.octets.specs.Moves.{put};
 ghost use Rattle.octets.specs.Strings.{join};
+ghost use Rattle.share_format.specs.Editions.{is_mdmf};
 ghost use Rattle.share_format.specs.Header.{hash_size, iv_size, header_size, offsets_at, number_fields, offset_fields};
 ghost use Rattle.share_format.specs.Header.{offsets_fit};
 ghost use Rattle.share_storing.specs.Facts.{NarrowOffsets};
 
 use octets::{moves, numbers};
 use share_format::header::{
-    CHAIN_FIELD, END_FIELD, FAR_OFFSET_SIZE, IV_AT, MDMF_OFFSETS_AT, PRIVATE_KEY_FIELD, ROOT_AT,
-    SEQUENCE_AT, SHARE_DATA_FIELD, SIGNATURE_FIELD, TO_LENGTH, TO_SEGMENT, TO_TOTAL, TREE_FIELD,
-    VERSION_AT, version_of,
+    CHAIN_FIELD, END_FIELD, Edition, FAR_OFFSET_SIZE, IV_AT, MDMF_OFFSETS_AT, Numbers,
+    PRIVATE_KEY_FIELD, ROOT_AT, SEQUENCE_AT, SHARE_DATA_FIELD, SIGNATURE_FIELD, TO_LENGTH,
+    TO_SEGMENT, TO_TOTAL, TREE_FIELD, VERSION_AT,
 };
 
 // The largest offset that four bytes hold.
-const LAST_OFFSET: u64 = 4294967295;
+const LAST_OFFSET: u64 = u32::MAX as u64;
 
 // Stores the version and the numbers; MDMF's IV is empty.
-fn put_numbers(
-    d: &mut [u8],
-    mdmf: bool,
-    sequence: u64,
-    root: &[u8],
-    iv: &[u8],
-    required: u8,
-    total: u8,
-    segment: u64,
-    data_length: u64,
-)
-    requires { (header_size mdmf ≤ length d.old) × (length root.now ≡ hash_size)
-        × (length iv.now ≡ iv_size mdmf) }
+fn put_numbers(d: &mut [u8], edition: Edition, numbers: Numbers, root: &[u8], iv: &[u8])
+    requires { (header_size (is_mdmf edition) ≤ length d.old) × (length root.now ≡ hash_size)
+        × (length iv.now ≡ iv_size (is_mdmf edition)) }
     ensures { d.new
         ≡ put 0
-        (join (number_fields mdmf sequence root.now iv.now required total segment data_length))
+        (join (number_fields (is_mdmf edition) numbers.sequence root.now iv.now numbers.required
+        numbers.total numbers.segment_size numbers.data_length))
         d.old }
 {
     let at = IV_AT + iv.len();
-    numbers::put_u8(d, VERSION_AT, version_of(mdmf));
-    numbers::put_u64(d, SEQUENCE_AT, sequence);
+    numbers::put_u8(d, VERSION_AT, edition.version());
+    numbers::put_u64(d, SEQUENCE_AT, numbers.sequence);
     moves::copy_part(d, ROOT_AT, root);
     moves::copy_part(d, IV_AT, iv);
-    numbers::put_u8(d, at, required);
-    numbers::put_u8(d, at + TO_TOTAL, total);
-    numbers::put_u64(d, at + TO_SEGMENT, segment);
-    numbers::put_u64(d, at + TO_LENGTH, data_length);
+    numbers::put_u8(d, at, numbers.required);
+    numbers::put_u8(d, at + TO_TOTAL, numbers.total);
+    numbers::put_u64(d, at + TO_SEGMENT, numbers.segment_size);
+    numbers::put_u64(d, at + TO_LENGTH, numbers.data_length);
 }
 
 fn put_sdmf_offsets(d: &mut [u8], bounds: [u64; 8])
@@ -74,68 +66,53 @@ fn put_mdmf_offsets(d: &mut [u8], bounds: [u64; 8])
     numbers::put_u64(d, MDMF_OFFSETS_AT + 7 * FAR_OFFSET_SIZE, bounds[7]);
 }
 
-fn put_offsets(d: &mut [u8], mdmf: bool, bounds: [u64; 8])
-    requires { (header_size mdmf ≤ length d.old) × (mdmf ≡ false → NarrowOffsets bounds) }
-    ensures { d.new ≡ put (offsets_at mdmf) (join (offset_fields mdmf bounds)) d.old }
+fn put_offsets(d: &mut [u8], edition: Edition, bounds: [u64; 8])
+    requires { (header_size (is_mdmf edition) ≤ length d.old)
+        × (is_mdmf edition ≡ false → NarrowOffsets bounds) }
+    ensures { d.new
+        ≡ put (offsets_at (is_mdmf edition)) (join (offset_fields (is_mdmf edition) bounds)) d.old }
 {
-    if mdmf {
-        put_mdmf_offsets(d, bounds);
-    } else {
-        put_sdmf_offsets(d, bounds);
+    match edition {
+        Edition::Sdmf => put_sdmf_offsets(d, bounds),
+        Edition::Mdmf => put_mdmf_offsets(d, bounds),
     }
 }
 
 // Whether each offset fits its field; any number of 64 bits fits all but SDMF's first four.
-pub fn offsets_fit(mdmf: bool, bounds: [u64; 8]) -> bool
+#[tactic(auto, using(crate::proofs::FieldLaws::fits_four))]
+pub fn offsets_fit(edition: Edition, bounds: [u64; 8]) -> bool
     requires { Each Fits64 bounds }
-    ensures { result ≡ offsets_fit mdmf bounds }
+    ensures { result ≡ offsets_fit (is_mdmf edition) bounds }
 {
-    if mdmf {
-        return true;
+    match edition {
+        Edition::Sdmf => {
+            bounds[1] <= LAST_OFFSET
+                && (bounds[2] <= LAST_OFFSET
+                    && (bounds[3] <= LAST_OFFSET && bounds[4] <= LAST_OFFSET))
+        }
+        Edition::Mdmf => true,
     }
-    if LAST_OFFSET < bounds[1] {
-        return false;
-    }
-    if LAST_OFFSET < bounds[2] {
-        return false;
-    }
-    if LAST_OFFSET < bounds[3] {
-        return false;
-    }
-    bounds[4] <= LAST_OFFSET
 }
 
 // Stores the whole header, for parts with these boundaries.
 pub fn put_header(
     d: &mut [u8],
-    mdmf: bool,
-    sequence: u64,
+    edition: Edition,
+    numbers: Numbers,
     root: &[u8],
     iv: &[u8],
-    required: u8,
-    total: u8,
-    segment: u64,
-    data_length: u64,
     bounds: [u64; 8],
 )
-    requires { (header_size mdmf ≤ length d.old) × (length root.now ≡ hash_size)
-        × (length iv.now ≡ iv_size mdmf) × (mdmf ≡ false → NarrowOffsets bounds) }
+    requires { (header_size (is_mdmf edition) ≤ length d.old) × (length root.now ≡ hash_size)
+        × (length iv.now ≡ iv_size (is_mdmf edition))
+        × (is_mdmf edition ≡ false → NarrowOffsets bounds) }
     ensures { d.new
         ≡ put 0
-        (join (number_fields mdmf sequence root.now iv.now required total segment data_length)
-        ++ join (offset_fields mdmf bounds))
+        (join (number_fields (is_mdmf edition) numbers.sequence root.now iv.now numbers.required
+        numbers.total numbers.segment_size numbers.data_length)
+        ++ join (offset_fields (is_mdmf edition) bounds))
         d.old }
 {
-    put_numbers(
-        d,
-        mdmf,
-        sequence,
-        root,
-        iv,
-        required,
-        total,
-        segment,
-        data_length,
-    );
-    put_offsets(d, mdmf, bounds);
+    put_numbers(d, edition, numbers, root, iv);
+    put_offsets(d, edition, bounds);
 }

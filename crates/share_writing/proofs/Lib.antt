@@ -1,4 +1,4 @@
--- Laws for the proofs of the share writers: room for the parts, their sizes, the verdict.
+-- Laws for the proofs of the share writers: parts one behind the other, room for them, the verdict.
+pub mod PartLaws
 pub mod RoomLaws
-pub mod SizeLaws
 pub mod VerdictLaws

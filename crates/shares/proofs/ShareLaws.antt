@@ -8,15 +8,14 @@ use native.Mathlib.Omega.{arith}
 use lib.Dec.{eqb, leb}
 use lib.ListN.{length, take, drop, get_or, get_or-replicate}
 use borrow.Author.Tests.{eqb-true, eqb-false, eq-eqb, ne_eqb, leb-true, leb-false}
-use Rattle.container.specs.Data.{lent_of, data_lent}
+use Rattle.container.specs.Data.{Lent, lent_of, data_lent}
 use Rattle.container.proofs.DataLaws.{lends, lent-bytes, none_lent}
 use Rattle.share_format.specs.Bounds.{part_of}
 use Rattle.share_format.specs.Facts.{PartsInside}
-use Rattle.share_format.specs.Header.{Edition, by_edition, version_of, edition_of, numbers_from, offsets_of, bounds_of}
+use Rattle.share_format.specs.Header.{Edition, version_of, edition_of, numbers_from, offsets_of, bounds_of}
 use Rattle.share_judging.specs.Judging.{share_outcome}
 use Rattle.share_judging.proofs.JudgingLaws.{bounds_inside, outcome-ordered}
 use Rattle.shares.specs.Share.{checked_of, checked_container, refused, bounds_at, checked_at}
-use Rattle.container.specs.declared.data.Lent.{Lent}
 use Rattle.shares.specs.declared.share.Checked.{Checked}
 
 -- ---- the answer
@@ -192,13 +191,9 @@ container_inside c = go (eqb (lent_of c).number 0) refl
     go false e = rw (container_refused c (eqb-false _ _ e)) (none_inside false (lent_of c).number (length c))
 
 -- Which part it is, by the edition's number.
-pub numbered : (e : Edition) (v i j : ℕ) → v ≡ version_of e → by_edition (eqb v 1) i j ≡ by_edition e i j
-numbered false v i j h = rw h
-numbered true v i j h = rw h
-
-pub below_seven : (e : Edition) (i j : ℕ) → i < 7 → j < 7 → by_edition e i j < 7
-below_seven false i j h k = h
-below_seven true i j h k = k
+pub named : (e : Edition) (v : ℕ) → v ≡ version_of e → eqb v 1 ≡ e
+named false v h = rw h
+named true v h = rw h
 
 -- ---- the boundaries, moved
 pub bound_below : (bs : List ℕ) (n : ℕ) → PartsInside bs n → (i : ℕ) → i < 8 → get_or bs i 0 ≤ n

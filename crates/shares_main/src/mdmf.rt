@@ -1,474 +1,302 @@
 // MDMF shares, bare and in containers.
-use crate::{enclose, front, set8, set64, show, show_container};
+use crate::Field::{Byte, Eight};
+use crate::{Changes, Field, Judged, changed, enclosed, front, sdmf, show_changed};
 use std::io;
 use std::io::Write;
 
-const LARGEST: u64 = 18446744073709551615;
+const VERSION: Field = Byte(0);
 
-// Where the header's fields stand that a case changes.
-const VERSION: usize = 0;
+const SEQUENCE: Field = Eight(1);
 
-const SEQUENCE: usize = 1;
+const REQUIRED: Field = Byte(41);
 
-const REQUIRED: usize = 41;
+const TOTAL: Field = Byte(42);
 
-const TOTAL: usize = 42;
+const SEGMENT: Field = Eight(43);
 
-const SEGMENT: usize = 43;
+const LENGTH: Field = Eight(51);
 
-const LENGTH: usize = 51;
+const PRIVATE_KEY: Field = Eight(59);
 
-const PRIVATE_KEY: usize = 59;
+const CHAIN: Field = Eight(67);
 
-const CHAIN: usize = 67;
+const SIGNATURE: Field = Eight(75);
 
-const SIGNATURE: usize = 75;
+const KEY: Field = Eight(83);
 
-const KEY: usize = 83;
+const KEY_END: Field = Eight(91);
 
-const KEY_END: usize = 91;
+const SHARE_DATA: Field = Eight(99);
 
-const SHARE_DATA: usize = 99;
+const TREE: Field = Eight(107);
 
-const TREE: usize = 107;
-
-const END: usize = 115;
+const END: Field = Eight(115);
 
 // The low byte of the chain's last node number.
-const LAST_NODE: usize = 1442;
+const LAST_NODE: Field = Byte(1442);
 
-fn fill_numbers(s: &mut [u8], k: u8, segment: u64, data_length: u64) {
-    set8(s, VERSION, 1);
-    set64(s, SEQUENCE, 1);
-    set8(s, REQUIRED, k);
-    set8(s, TOTAL, 10);
-    set64(s, SEGMENT, segment);
-    set64(s, LENGTH, data_length);
+// The header and the low bytes of the node numbers of a share of 2,310 bytes: 30 bytes of data in three segments, for
+// which 3 of 10 shares are enough. It has a private key of 1,216 bytes, a chain of 136, a signature of 256, a key of
+// 292, five spare bytes, share data of three salts and 10 bytes, a tree of seven hashes.
+const FIELDS: Changes = &[
+    (VERSION, 1),
+    (SEQUENCE, 1),
+    (REQUIRED, 3),
+    (TOTAL, 10),
+    (SEGMENT, 12),
+    (LENGTH, 30),
+    (PRIVATE_KEY, 123),
+    (CHAIN, 1339),
+    (SIGNATURE, 1475),
+    (KEY, 1731),
+    (KEY_END, 2023),
+    (SHARE_DATA, 2028),
+    (TREE, 2086),
+    (END, 2310),
+    (Byte(1340), 2),
+    (Byte(1374), 4),
+    (Byte(1408), 8),
+    (LAST_NODE, 16),
+];
+
+// The first N bytes of that share, and zeros behind it where N is more. Every byte that no field sets is 0.
+pub(crate) fn share<const N: usize>() -> [u8; N] {
+    changed(&[0; N], FIELDS)
 }
 
-// A private key of 1,216 bytes, a chain of 136, a signature of 256, a key of 292, five spare bytes.
-fn fill_offsets(s: &mut [u8]) {
-    set64(s, PRIVATE_KEY, 123);
-    set64(s, CHAIN, 1339);
-    set64(s, SIGNATURE, 1475);
-    set64(s, KEY, 1731);
-    set64(s, KEY_END, 2023);
-    set64(s, SHARE_DATA, 2028);
+// The first n bytes of a header: SDMF's for version 0, MDMF's for any other.
+fn header(version: u8, n: usize) -> Judged {
+    let mut s: [u8; 123] = if version == 0 { sdmf::share() } else { share() };
+    s[0] = version;
+    Judged::share(front(&s, n))
 }
 
-fn fill_last_offsets(s: &mut [u8], tree: u64, end: u64) {
-    set64(s, TREE, tree);
-    set64(s, END, end);
-}
-
-fn fill_nodes(s: &mut [u8]) {
-    set8(s, 1340, 2);
-    set8(s, 1374, 4);
-    set8(s, 1408, 8);
-    set8(s, LAST_NODE, 16);
-}
-
-// A share of 2,310 bytes: 30 bytes of data in three segments, for which 3 of 10 shares are enough. Its share data has
-// three salts and 10 bytes, its tree seven hashes. Every byte but those of the header and the node numbers is 0.
-pub(crate) fn fill(s: &mut [u8]) {
-    fill_numbers(s, 3, 12, 30);
-    fill_offsets(s);
-    fill_last_offsets(s, 2086, 2310);
-    fill_nodes(s);
-}
-
-// That share with one field or two changed.
-fn with8<W: Write>(out: &mut W, name: &[u8], at: usize, v: u8) -> io::Result<()> {
-    let mut s = [0u8; 2310];
-    fill(&mut s);
-    set8(&mut s, at, v);
-    show(out, name, &s)
-}
-
-fn with64<W: Write>(out: &mut W, name: &[u8], at: usize, v: u64) -> io::Result<()> {
-    let mut s = [0u8; 2310];
-    fill(&mut s);
-    set64(&mut s, at, v);
-    show(out, name, &s)
-}
-
-fn with8_and64<W: Write>(
-    out: &mut W,
-    name: &[u8],
-    at: usize,
-    v: u8,
-    at2: usize,
-    v2: u64,
-) -> io::Result<()> {
-    let mut s = [0u8; 2310];
-    fill(&mut s);
-    set8(&mut s, at, v);
-    set64(&mut s, at2, v2);
-    show(out, name, &s)
-}
-
-fn with_both<W: Write>(
-    out: &mut W,
-    name: &[u8],
-    at: usize,
-    v: u64,
-    at2: usize,
-    v2: u64,
-) -> io::Result<()> {
-    let mut s = [0u8; 2310];
-    fill(&mut s);
-    set64(&mut s, at, v);
-    set64(&mut s, at2, v2);
-    show(out, name, &s)
-}
-
-// Of that share's bytes, or of those and a zero behind them, the first n.
-fn first<W: Write>(out: &mut W, name: &[u8], n: usize) -> io::Result<()> {
-    let mut s = [0u8; 2311];
-    fill(&mut s);
-    show(out, name, front(&s, n))
-}
-
-// SDMF's header for version 0, MDMF's for any other.
-fn fill_header(s: &mut [u8], version: u8) {
-    if version == 0 {
-        crate::sdmf::fill(s);
-    } else {
-        fill(s);
+fn show_headers(out: &mut impl Write) -> io::Result<()> {
+    for n in [106, 107, 122, 123] {
+        for version in 0..3 {
+            writeln!(out, "{n} bytes, version {version}: {}", header(version, n))?;
+        }
     }
+    writeln!(out, "one byte, version 1: {}", header(1, 1))
 }
 
-// The first n bytes of a header.
-fn header<W: Write>(out: &mut W, name: &[u8], version: u8, n: usize) -> io::Result<()> {
-    let mut s = [0u8; 123];
-    fill_header(&mut s, version);
-    set8(&mut s, VERSION, version);
-    show(out, name, front(&s, n))
+const FIRST_CASES: &[(&str, Changes)] = &[
+    ("version 2", &[(VERSION, 2)]),
+    ("version 255", &[(VERSION, 255)]),
+    (
+        "as version 0, where data length 30 puts k 0 at 57",
+        &[(VERSION, 0)],
+    ),
+    (
+        "as version 0, where data length 778 puts k 3 at 57, and the segment size is 123",
+        &[(VERSION, 0), (LENGTH, 778)],
+    ),
+    ("k 0", &[(REQUIRED, 0)]),
+    ("k above N", &[(REQUIRED, 11)]),
+    ("segment size 10", &[(SEGMENT, 10)]),
+    ("segment size 0 with data", &[(SEGMENT, 0)]),
+    // Each relation between offsets as it just fails, 25, and as it just holds, where a later row may refuse the share.
+    ("private key at 122", &[(PRIVATE_KEY, 122)]),
+    ("private key at 124", &[(PRIVATE_KEY, 124)]),
+    ("private key of no byte", &[(CHAIN, 123)]),
+    ("private key of one byte, a longer chain", &[(CHAIN, 124)]),
+    ("no chain", &[(SIGNATURE, 1339)]),
+    ("signature a byte before the chain", &[(SIGNATURE, 1338)]),
+    ("signature of no byte", &[(KEY, 1475)]),
+    ("signature of one byte", &[(KEY, 1476)]),
+    ("key of no byte", &[(KEY_END, 1731)]),
+    ("key of one byte", &[(KEY_END, 1732)]),
+    ("no spare byte", &[(KEY_END, 2028)]),
+    ("share data a byte before the key's end", &[(KEY_END, 2029)]),
+    ("no share data, a longer tree", &[(TREE, 2028)]),
+    ("tree a byte before the share data", &[(TREE, 2027)]),
+    ("no tree", &[(TREE, 2310)]),
+    ("end a byte before the tree", &[(TREE, 2311)]),
+    ("end 2,309", &[(END, 2309)]),
+    ("end 2,311", &[(END, 2311)]),
+];
+
+const LATER_CASES: &[(&str, Changes)] = &[
+    ("private key at 2^64 - 1", &[(PRIVATE_KEY, u64::MAX)]),
+    ("chain at 2^64 - 1", &[(CHAIN, u64::MAX)]),
+    ("tree at 2^64 - 1", &[(TREE, u64::MAX)]),
+    ("end 2^64 - 1", &[(END, u64::MAX)]),
+    // What the parts contain.
+    ("node number 31", &[(LAST_NODE, 31)]),
+    ("node number 30", &[(LAST_NODE, 30)]),
+    ("node number 2 again", &[(LAST_NODE, 2)]),
+    ("chain of 135 bytes", &[(SIGNATURE, 1474)]),
+    ("N 8, a depth of 3", &[(TOTAL, 8)]),
+    ("share data of 57 bytes", &[(SHARE_DATA, 2029)]),
+    ("sequence number 2^64 - 1", &[(SEQUENCE, u64::MAX)]),
+    ("sequence number 2^64 - 2", &[(SEQUENCE, u64::MAX - 1)]),
+    // Of two faults the lower number is given.
+    (
+        "version 2 and segment size 10",
+        &[(VERSION, 2), (SEGMENT, 10)],
+    ),
+    ("k 0 and segment size 10", &[(REQUIRED, 0), (SEGMENT, 10)]),
+    (
+        "node number 31 and segment size 10",
+        &[(LAST_NODE, 31), (SEGMENT, 10)],
+    ),
+    ("node number 31 and end 0", &[(LAST_NODE, 31), (END, 0)]),
+    (
+        "node number 31 and a tree of 225 bytes",
+        &[(LAST_NODE, 31), (TREE, 2085)],
+    ),
+    (
+        "a tree of 225 bytes, share data of 57, sequence number 2^64 - 1",
+        &[(TREE, 2085), (SEQUENCE, u64::MAX)],
+    ),
+    (
+        "share data of 57 bytes, sequence number 2^64 - 1",
+        &[(SHARE_DATA, 2029), (SEQUENCE, u64::MAX)],
+    ),
+];
+
+// Numbers of a share, and the sizes of its share data and its tree.
+#[derive(Clone, Copy)]
+struct Sizes {
+    k: u64,
+    segment: u64,
+    length: u64,
+    share_data: u16,
+    tree: u16,
 }
 
-fn headers<W: Write>(out: &mut W) -> io::Result<()> {
-    header(out, b"106 bytes, version 0", 0, 106)?;
-    header(out, b"106 bytes, version 1", 1, 106)?;
-    header(out, b"106 bytes, version 2", 2, 106)?;
-    header(out, b"107 bytes, version 0", 0, 107)?;
-    header(out, b"107 bytes, version 1", 1, 107)?;
-    header(out, b"107 bytes, version 2", 2, 107)
-}
+const NO_DATA: Sizes = Sizes {
+    k: 3,
+    segment: 12,
+    length: 0,
+    share_data: 0,
+    tree: 0,
+};
 
-fn longer_headers<W: Write>(out: &mut W) -> io::Result<()> {
-    header(out, b"122 bytes, version 0", 0, 122)?;
-    header(out, b"122 bytes, version 1", 1, 122)?;
-    header(out, b"122 bytes, version 2", 2, 122)?;
-    header(out, b"123 bytes, version 0", 0, 123)?;
-    header(out, b"123 bytes, version 1", 1, 123)?;
-    header(out, b"123 bytes, version 2", 2, 123)?;
-    header(out, b"one byte, version 1", 1, 1)
-}
+const DATA_LENGTHS: &[(&str, Sizes)] = cases! { Sizes from NO_DATA;
+    "data length 0" => {},
+    "data length 1" => { length: 1, share_data: 17, tree: 32 },
+    "data length 2" => { length: 2, share_data: 17, tree: 32 },
+    "data length 3" => { length: 3, share_data: 17, tree: 32 },
+    "data length 4" => { length: 4, share_data: 18, tree: 32 },
+    "data length 4, a byte less" => { length: 4, share_data: 17, tree: 32 },
+    "data length 12" => { length: 12, share_data: 20, tree: 32 },
+    "data length 13" => { length: 13, share_data: 37, tree: 96 },
+    "data length 13, one salt and one hash" => { length: 13, share_data: 21, tree: 32 },
+    "segment size 0 and no data" => { segment: 0 },
+    "no data and a tree of 32 bytes" => { tree: 32 },
+    "no data and a byte of share data" => { share_data: 1 },
+    "no data, a tree of 32 bytes and segment size 0" => { segment: 0, tree: 32 },
+};
 
-fn first_rows<W: Write>(out: &mut W) -> io::Result<()> {
-    first(out, b"the share of 2,310 bytes", 2310)?;
-    with8(out, b"version 2", VERSION, 2)?;
-    with8(out, b"version 255", VERSION, 255)?;
-    with8(
-        out,
-        b"as version 0, where data length 30 puts k 0 at 57",
-        VERSION,
-        0,
-    )?;
-    with8_and64(
-        out,
-        b"as version 0, where data length 778 puts k 3 at 57, and the segment size is 123",
-        VERSION,
-        0,
-        LENGTH,
-        778,
-    )?;
-    with8(out, b"k 0", REQUIRED, 0)?;
-    with8(out, b"k above N", REQUIRED, 11)?;
-    with64(out, b"segment size 10", SEGMENT, 10)?;
-    with64(out, b"segment size 0 with data", SEGMENT, 0)
-}
+const SMALL_SEGMENTS: Sizes = Sizes {
+    segment: 3,
+    ..NO_DATA
+};
 
-// Each relation between offsets as it just fails, 25, and as it just holds, where a later row may refuse the share.
-fn front_offsets<W: Write>(out: &mut W) -> io::Result<()> {
-    with64(out, b"private key at 122", PRIVATE_KEY, 122)?;
-    with64(out, b"private key at 124", PRIVATE_KEY, 124)?;
-    with64(out, b"private key of no byte", CHAIN, 123)?;
-    with64(out, b"private key of one byte, a longer chain", CHAIN, 124)?;
-    with64(out, b"no chain", SIGNATURE, 1339)?;
-    with64(out, b"signature a byte before the chain", SIGNATURE, 1338)?;
-    with64(out, b"signature of no byte", KEY, 1475)?;
-    with64(out, b"signature of one byte", KEY, 1476)
-}
+// Each segment has a salt and one byte. Beside its tree are those of the next smaller and larger depth.
+const SEGMENTS: &[(&str, Sizes)] = cases! { Sizes from SMALL_SEGMENTS;
+    "1 segment" => { length: 3, share_data: 17, tree: 32 },
+    "1 segment and no tree" => { length: 3, share_data: 17 },
+    "1 segment, 3 hashes" => { length: 3, share_data: 17, tree: 96 },
+    "2 segments" => { length: 6, share_data: 34, tree: 96 },
+    "2 segments, 1 hash" => { length: 6, share_data: 34, tree: 32 },
+    "2 segments, 7 hashes" => { length: 6, share_data: 34, tree: 224 },
+    "3 segments" => { length: 9, share_data: 51, tree: 224 },
+    "3 segments, 3 hashes" => { length: 9, share_data: 51, tree: 96 },
+    "3 segments, 5 hashes" => { length: 9, share_data: 51, tree: 160 },
+    "3 segments, a tree of 223 bytes" => { length: 9, share_data: 51, tree: 223 },
+    "3 segments and no salt" => { length: 9, share_data: 3, tree: 224 },
+    "3 segments, a byte of share data more" => { length: 9, share_data: 52, tree: 224 },
+    "4 segments" => { length: 12, share_data: 68, tree: 224 },
+    "4 segments, 15 hashes" => { length: 12, share_data: 68, tree: 480 },
+    "5 segments" => { length: 15, share_data: 85, tree: 480 },
+    "5 segments, 7 hashes" => { length: 15, share_data: 85, tree: 224 },
+    "5 segments, 9 hashes" => { length: 15, share_data: 85, tree: 288 },
+};
 
-fn back_offsets<W: Write>(out: &mut W) -> io::Result<()> {
-    with64(out, b"key of no byte", KEY_END, 1731)?;
-    with64(out, b"key of one byte", KEY_END, 1732)?;
-    with64(out, b"no spare byte", KEY_END, 2028)?;
-    with64(
-        out,
-        b"share data a byte before the key's end",
-        KEY_END,
-        2029,
-    )?;
-    with64(out, b"no share data, a longer tree", TREE, 2028)?;
-    with64(out, b"tree a byte before the share data", TREE, 2027)?;
-    with64(out, b"no tree", TREE, 2310)?;
-    with64(out, b"end a byte before the tree", TREE, 2311)
-}
+const LONGEST: Sizes = Sizes {
+    length: u64::MAX,
+    share_data: 58,
+    tree: 224,
+    ..NO_DATA
+};
 
-fn ends<W: Write>(out: &mut W) -> io::Result<()> {
-    with64(out, b"end 2,309", END, 2309)?;
-    with64(out, b"end 2,311", END, 2311)?;
-    first(out, b"a byte behind the end", 2311)?;
-    first(out, b"the last byte is missing", 2309)?;
-    with64(out, b"private key at 2^64 - 1", PRIVATE_KEY, LARGEST)?;
-    with64(out, b"chain at 2^64 - 1", CHAIN, LARGEST)?;
-    with64(out, b"tree at 2^64 - 1", TREE, LARGEST)?;
-    with64(out, b"end 2^64 - 1", END, LARGEST)
-}
+const LARGEST_NUMBERS: &[(&str, Sizes)] = cases! { Sizes from LONGEST;
+    "segment size 2^64 - 1" => { segment: u64::MAX, length: 30, share_data: 26, tree: 32 },
+    "segment size 2^64 - 2" => { segment: u64::MAX - 1, length: 30, share_data: 26, tree: 32 },
+    "segment size and data length 2^64 - 1" => { segment: u64::MAX, tree: 32 },
+    "data length 2^64 - 1, two segments" => { k: 2, segment: u64::MAX - 1, tree: 96 },
+    "data length 2^64 - 1, 2^60 segments" => { k: 8, segment: 16 },
+    "data length 2^64 - 1, k 1, segment size 1" => { k: 1, segment: 1 },
+};
 
-fn content_rows<W: Write>(out: &mut W) -> io::Result<()> {
-    with8(out, b"node number 31", LAST_NODE, 31)?;
-    with8(out, b"node number 30", LAST_NODE, 30)?;
-    with8(out, b"node number 2 again", LAST_NODE, 2)?;
-    with64(out, b"chain of 135 bytes", SIGNATURE, 1474)?;
-    with8(out, b"N 8, a depth of 3", TOTAL, 8)?;
-    with64(out, b"share data of 57 bytes", SHARE_DATA, 2029)?;
-    with64(out, b"sequence number 2^64 - 1", SEQUENCE, LARGEST)?;
-    with64(
-        out,
-        b"sequence number 2^64 - 2",
-        SEQUENCE,
-        18446744073709551614,
-    )
-}
-
-fn lower_first<W: Write>(out: &mut W) -> io::Result<()> {
-    with8_and64(
-        out,
-        b"version 2 and segment size 10",
-        VERSION,
-        2,
-        SEGMENT,
-        10,
-    )?;
-    with8_and64(out, b"k 0 and segment size 10", REQUIRED, 0, SEGMENT, 10)?;
-    with8_and64(
-        out,
-        b"node number 31 and segment size 10",
-        LAST_NODE,
-        31,
-        SEGMENT,
-        10,
-    )?;
-    with8_and64(out, b"node number 31 and end 0", LAST_NODE, 31, END, 0)?;
-    with8_and64(
-        out,
-        b"node number 31 and a tree of 225 bytes",
-        LAST_NODE,
-        31,
-        TREE,
-        2085,
-    )?;
-    with_both(
-        out,
-        b"a tree of 225 bytes, share data of 57, sequence number 2^64 - 1",
-        TREE,
-        2085,
-        SEQUENCE,
-        LARGEST,
-    )?;
-    with_both(
-        out,
-        b"share data of 57 bytes, sequence number 2^64 - 1",
-        SHARE_DATA,
-        2029,
-        SEQUENCE,
-        LARGEST,
-    )
+fn show_sized(out: &mut impl Write, cases: &[(&str, Sizes)]) -> io::Result<()> {
+    for (name, sizes) in cases {
+        let tree_at = 2028 + sizes.share_data as u64;
+        let end = tree_at + sizes.tree as u64;
+        let changes = [
+            (REQUIRED, sizes.k),
+            (SEGMENT, sizes.segment),
+            (LENGTH, sizes.length),
+            (TREE, tree_at),
+            (END, end),
+        ];
+        let s = changed(&share::<2700>(), &changes);
+        writeln!(out, "{name}: {}", Judged::share(front(&s, end as usize)))?;
+    }
+    Ok(())
 }
 
 // N = 1: a tree of one leaf, so the chain is empty.
-fn single<W: Write>(out: &mut W) -> io::Result<()> {
-    let mut s = [0u8; 2330];
-    fill(&mut s);
-    set8(&mut s, REQUIRED, 1);
-    set8(&mut s, TOTAL, 1);
-    set64(&mut s, SIGNATURE, 1339);
-    set64(&mut s, TREE, 2106);
-    set64(&mut s, END, 2330);
-    show(out, b"N 1 and no chain", &s)
+fn single() -> Judged {
+    let changes = [
+        (REQUIRED, 1),
+        (TOTAL, 1),
+        (SIGNATURE, 1339),
+        (TREE, 2106),
+        (END, 2330),
+    ];
+    Judged::share(&changed(&share::<2330>(), &changes))
 }
 
-// The share with other numbers, and with share data and a tree of these sizes.
-fn sized<W: Write>(
-    out: &mut W,
-    name: &[u8],
-    k: u8,
-    segment: u64,
-    data_length: u64,
-    share_data: u16,
-    tree: u16,
-) -> io::Result<()> {
-    let mut s = [0u8; 2700];
-    let tree_at = 2028 + share_data as u64;
-    let end = tree_at + tree as u64;
-    fill_numbers(&mut s, k, segment, data_length);
-    fill_offsets(&mut s);
-    fill_last_offsets(&mut s, tree_at, end);
-    fill_nodes(&mut s);
-    show(out, name, front(&s, end as usize))
+// The first n bytes of the share with this last node number, in a container.
+fn enclosed_share(node: u64, n: usize) -> Judged {
+    let s = changed(&share::<2310>(), &[(LAST_NODE, node)]);
+    Judged::container(&enclosed::<2800>(front(&s, n)))
 }
 
-// k = 3 and segments of 12 bytes.
-fn data_lengths<W: Write>(out: &mut W) -> io::Result<()> {
-    sized(out, b"data length 0", 3, 12, 0, 0, 0)?;
-    sized(out, b"data length 1", 3, 12, 1, 17, 32)?;
-    sized(out, b"data length 2", 3, 12, 2, 17, 32)?;
-    sized(out, b"data length 3", 3, 12, 3, 17, 32)?;
-    sized(out, b"data length 4", 3, 12, 4, 18, 32)?;
-    sized(out, b"data length 4, a byte less", 3, 12, 4, 17, 32)?;
-    sized(out, b"data length 12", 3, 12, 12, 20, 32)?;
-    sized(out, b"data length 13", 3, 12, 13, 37, 96)?;
-    sized(
+pub(crate) fn run(out: &mut impl Write) -> io::Result<()> {
+    writeln!(out, "== the first bytes of a header")?;
+    show_headers(out)?;
+    writeln!(out, "== MDMF shares")?;
+    let share: [u8; 2310] = share();
+    writeln!(out, "the share of 2,310 bytes: {}", Judged::share(&share))?;
+    show_changed(out, &share, FIRST_CASES)?;
+    writeln!(
         out,
-        b"data length 13, one salt and one hash",
-        3,
-        12,
-        13,
-        21,
-        32,
-    )
-}
-
-fn no_segment<W: Write>(out: &mut W) -> io::Result<()> {
-    sized(out, b"segment size 0 and no data", 3, 0, 0, 0, 0)?;
-    sized(out, b"no data and a tree of 32 bytes", 3, 12, 0, 0, 32)?;
-    sized(out, b"no data and a byte of share data", 3, 12, 0, 1, 0)?;
-    sized(
-        out,
-        b"no data, a tree of 32 bytes and segment size 0",
-        3,
-        0,
-        0,
-        0,
-        32,
-    )
-}
-
-// Segments of 3 bytes, each with a salt and one byte, and the trees of the next smaller and larger depth.
-fn segments<W: Write>(out: &mut W) -> io::Result<()> {
-    sized(out, b"1 segment", 3, 3, 3, 17, 32)?;
-    sized(out, b"1 segment and no tree", 3, 3, 3, 17, 0)?;
-    sized(out, b"1 segment, 3 hashes", 3, 3, 3, 17, 96)?;
-    sized(out, b"2 segments", 3, 3, 6, 34, 96)?;
-    sized(out, b"2 segments, 1 hash", 3, 3, 6, 34, 32)?;
-    sized(out, b"2 segments, 7 hashes", 3, 3, 6, 34, 224)?;
-    sized(out, b"3 segments", 3, 3, 9, 51, 224)?;
-    sized(out, b"3 segments, 3 hashes", 3, 3, 9, 51, 96)?;
-    sized(out, b"3 segments, 5 hashes", 3, 3, 9, 51, 160)
-}
-
-fn more_segments<W: Write>(out: &mut W) -> io::Result<()> {
-    sized(out, b"3 segments, a tree of 223 bytes", 3, 3, 9, 51, 223)?;
-    sized(out, b"3 segments and no salt", 3, 3, 9, 3, 224)?;
-    sized(
-        out,
-        b"3 segments, a byte of share data more",
-        3,
-        3,
-        9,
-        52,
-        224,
+        "a byte behind the end: {}",
+        Judged::share(&self::share::<2311>())
     )?;
-    sized(out, b"4 segments", 3, 3, 12, 68, 224)?;
-    sized(out, b"4 segments, 15 hashes", 3, 3, 12, 68, 480)?;
-    sized(out, b"5 segments", 3, 3, 15, 85, 480)?;
-    sized(out, b"5 segments, 7 hashes", 3, 3, 15, 85, 224)?;
-    sized(out, b"5 segments, 9 hashes", 3, 3, 15, 85, 288)
-}
-
-fn largest_numbers<W: Write>(out: &mut W) -> io::Result<()> {
-    sized(out, b"segment size 2^64 - 1", 3, LARGEST, 30, 26, 32)?;
-    sized(
+    writeln!(
         out,
-        b"segment size 2^64 - 2",
-        3,
-        18446744073709551614,
-        30,
-        26,
-        32,
+        "the last byte is missing: {}",
+        Judged::share(&self::share::<2309>())
     )?;
-    sized(
+    show_changed(out, &share, LATER_CASES)?;
+    writeln!(out, "N 1 and no chain: {}", single())?;
+    show_sized(out, DATA_LENGTHS)?;
+    show_sized(out, SEGMENTS)?;
+    show_sized(out, LARGEST_NUMBERS)?;
+    writeln!(
         out,
-        b"segment size and data length 2^64 - 1",
-        3,
-        LARGEST,
-        LARGEST,
-        58,
-        32,
+        "the share in a container: {}",
+        enclosed_share(16, 2310)
     )?;
-    sized(
+    writeln!(
         out,
-        b"data length 2^64 - 1, two segments",
-        2,
-        18446744073709551614,
-        LARGEST,
-        58,
-        96,
+        "node number 31 in a container: {}",
+        enclosed_share(31, 2310)
     )?;
-    sized(
-        out,
-        b"data length 2^64 - 1, 2^60 segments",
-        8,
-        16,
-        LARGEST,
-        58,
-        224,
-    )?;
-    sized(
-        out,
-        b"data length 2^64 - 1, k 1, segment size 1",
-        1,
-        1,
-        LARGEST,
-        58,
-        224,
-    )
-}
-
-fn enclosed<W: Write>(out: &mut W, name: &[u8], node: u8, n: usize) -> io::Result<()> {
-    let mut s = [0u8; 2310];
-    fill(&mut s);
-    set8(&mut s, LAST_NODE, node);
-    let mut c = [0u8; 2800];
-    enclose(&mut c, front(&s, n));
-    show_container(out, name, &c)
-}
-
-fn containers<W: Write>(out: &mut W) -> io::Result<()> {
-    enclosed(out, b"the share in a container", 16, 2310)?;
-    enclosed(out, b"node number 31 in a container", 31, 2310)?;
-    enclosed(out, b"122 bytes in a container", 16, 122)
-}
-
-pub(crate) fn run<W: Write>(out: &mut W) -> io::Result<()> {
-    crate::title(out, b"the first bytes of a header")?;
-    headers(out)?;
-    longer_headers(out)?;
-    crate::title(out, b"MDMF shares")?;
-    first_rows(out)?;
-    front_offsets(out)?;
-    back_offsets(out)?;
-    ends(out)?;
-    content_rows(out)?;
-    lower_first(out)?;
-    single(out)?;
-    data_lengths(out)?;
-    no_segment(out)?;
-    segments(out)?;
-    more_segments(out)?;
-    largest_numbers(out)?;
-    containers(out)
+    writeln!(out, "122 bytes in a container: {}", enclosed_share(16, 122))
 }

@@ -1,229 +1,203 @@
 // SDMF shares, bare and in containers.
-use crate::{enclose, set8, set32, set64, show, show_container, store};
+use crate::Field::{Byte, Eight, Four};
+use crate::{Changes, Field, Judged, changed, enclosed, put, show_changed};
 use std::io;
 use std::io::Write;
 
-fn fill_numbers(s: &mut [u8]) {
-    set64(s, 1, 1);
-    set8(s, 57, 3);
-    set8(s, 58, 10);
-    set64(s, 59, 12);
-    set64(s, 67, 10);
+const VERSION: Field = Byte(0);
+
+const SEQUENCE: Field = Eight(1);
+
+const REQUIRED: Field = Byte(57);
+
+const TOTAL: Field = Byte(58);
+
+const SEGMENT: Field = Eight(59);
+
+const LENGTH: Field = Eight(67);
+
+const SIGNATURE: Field = Four(75);
+
+const CHAIN: Field = Four(79);
+
+const TREE: Field = Four(83);
+
+const SHARE_DATA: Field = Four(87);
+
+const PRIVATE_KEY: Field = Eight(91);
+
+const END: Field = Eight(99);
+
+// The low byte of the chain's last node number.
+const LAST_NODE: Field = Byte(758);
+
+// The header of the 2,043-byte share (docs/RULES.md, P11) and the low bytes of its node numbers.
+const FIELDS: Changes = &[
+    (SEQUENCE, 1),
+    (REQUIRED, 3),
+    (TOTAL, 10),
+    (SEGMENT, 12),
+    (LENGTH, 10),
+    (SIGNATURE, 399),
+    (CHAIN, 655),
+    (TREE, 791),
+    (SHARE_DATA, 823),
+    (PRIVATE_KEY, 827),
+    (END, 2043),
+    (Byte(656), 2),
+    (Byte(690), 4),
+    (Byte(724), 8),
+    (LAST_NODE, 16),
+];
+
+// The first N bytes of that share, and zeros behind it where N is more. Every byte that no field sets is 0.
+pub(crate) fn share<const N: usize>() -> [u8; N] {
+    changed(&[0; N], FIELDS)
 }
 
-fn fill_offsets(s: &mut [u8]) {
-    set32(s, 75, 399);
-    set32(s, 79, 655);
-    set32(s, 83, 791);
-    set32(s, 87, 823);
-    set64(s, 91, 827);
-    set64(s, 99, 2043);
+const CASES: &[(&str, Changes)] = &[
+    ("version 2", &[(VERSION, 2)]),
+    ("k 0", &[(REQUIRED, 0)]),
+    ("k above N", &[(REQUIRED, 11)]),
+    ("segment 10", &[(SEGMENT, 10)]),
+    ("segment 15", &[(SEGMENT, 15)]),
+    // The offsets.
+    ("signature at 107", &[(SIGNATURE, 107)]),
+    ("signature = chain", &[(SIGNATURE, 655)]),
+    ("tree below chain", &[(TREE, 654)]),
+    ("end 2042", &[(END, 2042)]),
+    ("private key far away", &[(PRIVATE_KEY, u64::MAX)]),
+    // What the parts contain.
+    ("node number 31", &[(LAST_NODE, 31)]),
+    ("node number 30", &[(LAST_NODE, 30)]),
+    ("node number 2 again", &[(LAST_NODE, 2)]),
+    ("chain of 135 bytes", &[(TREE, 790)]),
+    ("N 8, a depth of 3", &[(TOTAL, 8)]),
+    ("tree of 31 bytes", &[(SHARE_DATA, 822)]),
+    ("share data of 5 bytes", &[(PRIVATE_KEY, 828)]),
+    ("sequence number 2^64 - 1", &[(SEQUENCE, u64::MAX)]),
+    // Of two faults the lower number is given.
+    ("version 2 and segment 10", &[(VERSION, 2), (SEGMENT, 10)]),
+    ("k 0 and end 0", &[(REQUIRED, 0), (END, 0)]),
+    (
+        "node number 31 and segment 10",
+        &[(LAST_NODE, 31), (SEGMENT, 10)],
+    ),
+    ("node number 31 and end 0", &[(LAST_NODE, 31), (END, 0)]),
+    (
+        "node number 31 and private key at 828",
+        &[(LAST_NODE, 31), (PRIVATE_KEY, 828)],
+    ),
+    (
+        "node number 31 and sequence number 2^64 - 1",
+        &[(LAST_NODE, 31), (SEQUENCE, u64::MAX)],
+    ),
+    // N = 1: a tree of one leaf, so the chain is empty.
+    (
+        "N 1 and no chain",
+        &[
+            (REQUIRED, 1),
+            (TOTAL, 1),
+            (SEGMENT, 10),
+            (TREE, 655),
+            (SHARE_DATA, 687),
+            (PRIVATE_KEY, 697),
+        ],
+    ),
+    (
+        "no data and no tree",
+        &[
+            (SEGMENT, 0),
+            (LENGTH, 0),
+            (SHARE_DATA, 791),
+            (PRIVATE_KEY, 791),
+        ],
+    ),
+    (
+        "no data and a tree of 32 bytes",
+        &[
+            (SEGMENT, 0),
+            (LENGTH, 0),
+            (SHARE_DATA, 823),
+            (PRIVATE_KEY, 823),
+        ],
+    ),
+    (
+        "no data and a tree of 31 bytes",
+        &[
+            (SEGMENT, 0),
+            (LENGTH, 0),
+            (SHARE_DATA, 822),
+            (PRIVATE_KEY, 822),
+        ],
+    ),
+    ("data and no tree", &[(SHARE_DATA, 791)]),
+    // The longest data, where the least multiple may be 2^64.
+    (
+        "data length 2^64 - 1, k 2, segment 0",
+        &[(REQUIRED, 2), (SEGMENT, 0), (LENGTH, u64::MAX)],
+    ),
+    (
+        "data length 2^64 - 1, k 2, segment 1",
+        &[(REQUIRED, 2), (SEGMENT, 1), (LENGTH, u64::MAX)],
+    ),
+    (
+        "data length 2^64 - 1, k 3, segment 2^64 - 1",
+        &[(SEGMENT, u64::MAX), (LENGTH, u64::MAX)],
+    ),
+];
+
+// The share with these changes, in a container.
+fn in_container(changes: Changes) -> [u8; 2600] {
+    enclosed(&changed(&share::<2043>(), changes))
 }
 
-fn fill_nodes(s: &mut [u8]) {
-    set8(s, 656, 2);
-    set8(s, 690, 4);
-    set8(s, 724, 8);
-    set8(s, 758, 16);
-}
-
-// The header of the 2,043-byte share (docs/RULES.md, P11) and the low bytes of its node numbers; every other byte is 0.
-pub(crate) fn fill(s: &mut [u8]) {
-    fill_numbers(s);
-    fill_offsets(s);
-    fill_nodes(s);
-}
-
-// That share with one field or two changed.
-fn with8<W: Write>(out: &mut W, name: &[u8], at: usize, v: u8) -> io::Result<()> {
-    let mut s = [0u8; 2043];
-    fill(&mut s);
-    set8(&mut s, at, v);
-    show(out, name, &s)
-}
-
-fn with32<W: Write>(out: &mut W, name: &[u8], at: usize, v: u32) -> io::Result<()> {
-    let mut s = [0u8; 2043];
-    fill(&mut s);
-    set32(&mut s, at, v);
-    show(out, name, &s)
-}
-
-fn with64<W: Write>(out: &mut W, name: &[u8], at: usize, v: u64) -> io::Result<()> {
-    let mut s = [0u8; 2043];
-    fill(&mut s);
-    set64(&mut s, at, v);
-    show(out, name, &s)
-}
-
-fn with8_and64<W: Write>(
-    out: &mut W,
-    name: &[u8],
-    at: usize,
-    v: u8,
-    at2: usize,
-    v2: u64,
-) -> io::Result<()> {
-    let mut s = [0u8; 2043];
-    fill(&mut s);
-    set8(&mut s, at, v);
-    set64(&mut s, at2, v2);
-    show(out, name, &s)
-}
-
-fn first_rows<W: Write>(out: &mut W) -> io::Result<()> {
-    with8(out, b"the share of 2,043 bytes", 0, 0)?;
-    show(out, b"no bytes", b"")?;
-    with8(out, b"version 2", 0, 2)?;
-    with8(out, b"k 0", 57, 0)?;
-    with8(out, b"k above N", 57, 11)?;
-    with64(out, b"segment 10", 59, 10)?;
-    with64(out, b"segment 15", 59, 15)
-}
-
-fn offset_rows<W: Write>(out: &mut W) -> io::Result<()> {
-    with32(out, b"signature at 107", 75, 107)?;
-    with32(out, b"signature = chain", 75, 655)?;
-    with32(out, b"tree below chain", 83, 654)?;
-    with64(out, b"end 2042", 99, 2042)?;
-    with64(out, b"private key far away", 91, 18446744073709551615)
-}
-
-fn content_rows<W: Write>(out: &mut W) -> io::Result<()> {
-    with8(out, b"node number 31", 758, 31)?;
-    with8(out, b"node number 30", 758, 30)?;
-    with8(out, b"node number 2 again", 758, 2)?;
-    with32(out, b"chain of 135 bytes", 83, 790)?;
-    with8(out, b"N 8, a depth of 3", 58, 8)?;
-    with32(out, b"tree of 31 bytes", 87, 822)?;
-    with64(out, b"share data of 5 bytes", 91, 828)?;
-    with64(out, b"sequence number 2^64 - 1", 1, 18446744073709551615)
-}
-
-fn lower_first<W: Write>(out: &mut W) -> io::Result<()> {
-    with8_and64(out, b"version 2 and segment 10", 0, 2, 59, 10)?;
-    with8_and64(out, b"k 0 and end 0", 57, 0, 99, 0)?;
-    with8_and64(out, b"node number 31 and segment 10", 758, 31, 59, 10)?;
-    with8_and64(out, b"node number 31 and end 0", 758, 31, 99, 0)?;
-    with8_and64(
+fn show_containers(out: &mut impl Write) -> io::Result<()> {
+    let mut c = in_container(&[]);
+    let refused = in_container(&[(LAST_NODE, 31)]);
+    let empty: [u8; 472] = enclosed(&[]);
+    writeln!(out, "the share in a container: {}", Judged::container(&c))?;
+    writeln!(
         out,
-        b"node number 31 and private key at 828",
-        758,
-        31,
-        91,
-        828,
+        "node number 31 in a container: {}",
+        Judged::container(&refused)
     )?;
-    with8_and64(
+    writeln!(out, "an empty container: {}", Judged::container(&empty))?;
+    c[0] = 84;
+    writeln!(
         out,
-        b"node number 31 and sequence number 2^64 - 1",
-        758,
-        31,
-        1,
-        18446744073709551615,
-    )
-}
-
-// N = 1: a tree of one leaf, so the chain is empty.
-fn single<W: Write>(out: &mut W) -> io::Result<()> {
-    let mut s = [0u8; 2043];
-    fill(&mut s);
-    set8(&mut s, 57, 1);
-    set8(&mut s, 58, 1);
-    set64(&mut s, 59, 10);
-    set32(&mut s, 83, 655);
-    set32(&mut s, 87, 687);
-    set64(&mut s, 91, 697);
-    show(out, b"N 1 and no chain", &s)
-}
-
-// No data, and a block tree that begins at 791.
-fn without_data<W: Write>(out: &mut W, name: &[u8], after_tree: u32) -> io::Result<()> {
-    let mut s = [0u8; 2043];
-    fill(&mut s);
-    set64(&mut s, 59, 0);
-    set64(&mut s, 67, 0);
-    set32(&mut s, 87, after_tree);
-    set64(&mut s, 91, after_tree as u64);
-    show(out, name, &s)
-}
-
-// The longest data, where the least multiple may be 2^64.
-fn longest<W: Write>(out: &mut W, name: &[u8], k: u8, segment: u64) -> io::Result<()> {
-    let mut s = [0u8; 2043];
-    fill(&mut s);
-    set8(&mut s, 57, k);
-    set64(&mut s, 59, segment);
-    set64(&mut s, 67, 18446744073709551615);
-    show(out, name, &s)
-}
-
-fn edges<W: Write>(out: &mut W) -> io::Result<()> {
-    single(out)?;
-    without_data(out, b"no data and no tree", 791)?;
-    without_data(out, b"no data and a tree of 32 bytes", 823)?;
-    without_data(out, b"no data and a tree of 31 bytes", 822)?;
-    with32(out, b"data and no tree", 87, 791)?;
-    longest(out, b"data length 2^64 - 1, k 2, segment 0", 2, 0)?;
-    longest(out, b"data length 2^64 - 1, k 2, segment 1", 2, 1)?;
-    longest(
+        "a container with another magic: {}",
+        Judged::container(&c)
+    )?;
+    writeln!(
         out,
-        b"data length 2^64 - 1, k 3, segment 2^64 - 1",
-        3,
-        18446744073709551615,
+        "a container of 471 bytes: {}",
+        Judged::container(&[0; 471])
     )
-}
-
-fn enclosed<W: Write>(out: &mut W, name: &[u8], node: u8) -> io::Result<()> {
-    let mut s = [0u8; 2043];
-    fill(&mut s);
-    set8(&mut s, 758, node);
-    let mut c = [0u8; 2600];
-    enclose(&mut c, &s);
-    show_container(out, name, &c)
-}
-
-fn broken<W: Write>(out: &mut W) -> io::Result<()> {
-    let mut s = [0u8; 2043];
-    fill(&mut s);
-    let mut c = [0u8; 2600];
-    enclose(&mut c, &s);
-    set8(&mut c, 0, 84);
-    show_container(out, b"a container with another magic", &c)
-}
-
-fn containers<W: Write>(out: &mut W) -> io::Result<()> {
-    enclosed(out, b"the share in a container", 16)?;
-    enclosed(out, b"node number 31 in a container", 31)?;
-    let mut c = [0u8; 472];
-    enclose(&mut c, b"");
-    show_container(out, b"an empty container", &c)?;
-    broken(out)?;
-    let d = [0u8; 471];
-    show_container(out, b"a container of 471 bytes", &d)
 }
 
 // The share read as MDMF, with these bytes for its IV.
-fn as_mdmf<W: Write>(out: &mut W, name: &[u8], iv: u8) -> io::Result<()> {
-    let mut s = [0u8; 2043];
-    fill(&mut s);
-    let bytes = [iv; 16];
-    store(&mut s, 41, &bytes);
-    set8(&mut s, 0, 1);
-    show(out, name, &s)
+fn as_mdmf(iv: u8) -> Judged {
+    let mut s = changed(&share::<2043>(), &[(VERSION, 1)]);
+    put(&mut s, 41, &[iv; 16]);
+    Judged::share(&s)
 }
 
-pub(crate) fn run<W: Write>(out: &mut W) -> io::Result<()> {
-    crate::title(out, b"SDMF shares")?;
-    first_rows(out)?;
-    offset_rows(out)?;
-    content_rows(out)?;
-    lower_first(out)?;
-    edges(out)?;
-    containers(out)?;
-    as_mdmf(out, b"as version 1, where an IV of zeros puts k 0 at 41", 0)?;
-    as_mdmf(
+pub(crate) fn run(out: &mut impl Write) -> io::Result<()> {
+    writeln!(out, "== SDMF shares")?;
+    let share: [u8; 2043] = share();
+    writeln!(out, "the share of 2,043 bytes: {}", Judged::share(&share))?;
+    writeln!(out, "no bytes: {}", Judged::share(&[]))?;
+    show_changed(out, &share, CASES)?;
+    show_containers(out)?;
+    writeln!(
         out,
-        b"as version 1, where an IV of 22s puts k 22 at 41, and the private key is at 12",
-        22,
+        "as version 1, where an IV of zeros puts k 0 at 41: {}",
+        as_mdmf(0)
+    )?;
+    writeln!(
+        out,
+        "as version 1, where an IV of 22s puts k 22 at 41, and the private key is at 12: {}",
+        as_mdmf(22),
     )
 }

@@ -1,19 +1,18 @@
 // Shares written from numbers and parts. A line is a case: its name, the number, the share's length. Below it: a share
 // that was written is checked, read back and written again; on a refusal the space is compared with what it was.
-use crate::{front, set8, show, store};
-use octets::{numbers, strings};
+use crate::{Judged, front, put};
+use share_format::header::{Edition, Numbers};
+use share_format::parts::Part;
 use share_rules::Written;
 use shares::share;
 use std::io;
 use std::io::Write;
 
-const LARGEST: u64 = 18446744073709551615;
-
 // What a case gives a writer: numbers, parts by their lengths, the chain's last node number, the length of the space.
-// SDMF has no segment size and no spare bytes, MDMF no IV.
+// SDMF has no segment size and no spare bytes, MDMF no IV. Lengths, so that a row says `blocks: 5` and repeats no byte.
 #[derive(Clone, Copy)]
 struct Given {
-    mdmf: bool,
+    edition: Edition,
     sequence: u64,
     root: usize,
     k: u8,
@@ -31,500 +30,294 @@ struct Given {
 }
 
 // The SDMF share of 2,043 bytes, with seven bytes of space behind it.
-fn sdmf() -> Given {
-    Given {
-        mdmf: false,
-        sequence: 1,
-        root: 32,
-        k: 3,
-        segment: 0,
-        length: 10,
-        key: 292,
-        signature: 256,
-        chain: 136,
-        node: 16,
-        tree: 32,
-        blocks: 4,
-        private: 1216,
-        spare: 0,
-        space: 2050,
-    }
-}
+const SDMF: Given = Given {
+    edition: Edition::Sdmf,
+    sequence: 1,
+    root: 32,
+    k: 3,
+    segment: 0,
+    length: 10,
+    key: 292,
+    signature: 256,
+    chain: 136,
+    node: 16,
+    tree: 32,
+    blocks: 4,
+    private: 1216,
+    spare: 0,
+    space: 2050,
+};
 
 // The MDMF share of 2,310 bytes, with seven bytes of space behind it.
-fn mdmf() -> Given {
-    Given {
-        mdmf: true,
-        sequence: 1,
-        root: 32,
-        k: 3,
-        segment: 12,
-        length: 30,
-        key: 292,
-        signature: 256,
-        chain: 136,
-        node: 16,
-        tree: 224,
-        blocks: 58,
-        private: 1216,
-        spare: 5,
-        space: 2317,
-    }
-}
+const MDMF: Given = Given {
+    edition: Edition::Mdmf,
+    segment: 12,
+    length: 30,
+    tree: 224,
+    blocks: 58,
+    spare: 5,
+    space: 2317,
+    ..SDMF
+};
 
-fn show_written<W: Write>(out: &mut W, name: &[u8], written: Written) -> io::Result<()> {
-    crate::show_number(out, name, written.number)?;
-    out.write_all(b" ")?;
-    write!(out, "{}", written.length)?;
-    out.write_all(b"\n")
-}
+const SDMF_CASES: &[(&str, Given)] = cases! { Given from SDMF;
+    "the SDMF share, into seven bytes more" => {},
+    "R of 31 bytes, into one byte" => { root: 31, space: 1 },
+    "k 0, into one byte" => { k: 0, space: 1 },
+    "into 2,042 bytes" => { space: 2042 },
+    "k 0" => { k: 0 },
+    "data length 2^64 - 1, k 2" => { k: 2, length: u64::MAX },
+    "no key" => { key: 0 },
+    "node number 31" => { node: 31 },
+    "no tree" => { tree: 0 },
+    "share data of 5 bytes" => { blocks: 5 },
+    "data length 2^64 - 1, k 3" => { length: u64::MAX },
+    "sequence number 2^64 - 1" => { sequence: u64::MAX },
+};
 
-fn say<W: Write>(out: &mut W, what: &[u8], a: &[u8], b: &[u8]) -> io::Result<()> {
-    out.write_all(what)?;
-    if strings::compare(a, b) == 0 {
-        out.write_all(b": yes\n")
-    } else {
-        out.write_all(b": NO\n")
-    }
-}
+const MDMF_CASES: &[(&str, Given)] = cases! { Given from MDMF;
+    "the MDMF share, into seven bytes more" => {},
+    "no spare byte" => { spare: 0 },
+    "no data, segment size 12" => { length: 0, blocks: 0, tree: 0 },
+    "no data, segment size 0" => { segment: 0, length: 0, blocks: 0, tree: 0 },
+    "five segments" => { segment: 3, length: 15, blocks: 85, tree: 480, space: 2600 },
+    "segment size 2^64 - 1" => { segment: u64::MAX, blocks: 26, tree: 32 },
+    "private key, signature and key of one byte" => { private: 1, signature: 1, key: 1 },
 
-fn fill_chain(chain: &mut [u8], node: u8) {
-    set8(chain, 1, 2);
-    set8(chain, 35, 4);
-    set8(chain, 69, 8);
-    set8(chain, 103, node);
-    set8(chain, 135, 24);
-}
+    "R of 31 bytes, into one byte" => { root: 31, space: 1 },
+    "R of 33 bytes" => { root: 33 },
+    "k 0, into one byte" => { k: 0, space: 1 },
+    "into 2,309 bytes" => { space: 2309 },
+
+    "k 0 and segment size 10" => { k: 0, segment: 10 },
+    "k above N" => { k: 11 },
+    "segment size 10" => { segment: 10 },
+    "segment size 0 with data" => { segment: 0 },
+
+    "no private key" => { private: 0 },
+    "no signature" => { signature: 0 },
+    "no key" => { key: 0 },
+    "node number 31" => { node: 31 },
+    "chain of 135 bytes" => { chain: 135 },
+
+    "no tree" => { tree: 0 },
+    "a tree of 3 hashes" => { tree: 96 },
+    "no data and a tree of one hash" => { length: 0, blocks: 0, tree: 32 },
+    "share data of 57 bytes" => { blocks: 57 },
+
+    "data length 2^64 - 1" => { length: u64::MAX },
+    "data length and segment size 2^64 - 1" => { segment: u64::MAX, length: u64::MAX, tree: 32 },
+    "sequence number 2^64 - 1" => { sequence: u64::MAX },
+};
+
+// The parts of the two shares at the places that P11 of docs/RULES.md names, with the last byte of the chain.
+const SDMF_PARTS: &[(usize, &[u8])] = &[
+    (9, &[21; 32]),
+    (41, &[22; 16]),
+    (107, &[26; 292]),
+    (399, &[23; 256]),
+    (790, &[24]),
+    (791, &[27; 32]),
+    (823, &[28; 4]),
+    (827, &[25; 1216]),
+];
+
+const MDMF_PARTS: &[(usize, &[u8])] = &[
+    (9, &[21; 32]),
+    (123, &[25; 1216]),
+    (1474, &[24]),
+    (1475, &[23; 256]),
+    (1731, &[26; 292]),
+    (2023, &[29; 5]),
+    (2028, &[28; 58]),
+    (2086, &[27; 224]),
+];
 
 // Each part has bytes of its own.
-fn write(given: Given, d: &mut [u8]) -> Written {
-    let root = [21u8; 33];
-    let iv = [22u8; 16];
-    let signature = [23u8; 256];
-    let mut chain = [0u8; 136];
-    fill_chain(&mut chain, given.node);
-    let private_key = [25u8; 1216];
-    let key = [26u8; 292];
-    let tree = [27u8; 480];
-    let blocks = [28u8; 85];
-    let spare = [29u8; 5];
-    if given.mdmf {
-        share_writing::write_mdmf(
+fn write(given: &Given, d: &mut [u8]) -> Written {
+    let mut chain = [0; 136];
+    chain[1] = 2;
+    chain[35] = 4;
+    chain[69] = 8;
+    chain[103] = given.node;
+    chain[135] = 24;
+    let root = front(&[21; 33], given.root);
+    let signature = front(&[23; 256], given.signature);
+    let chain = front(&chain, given.chain);
+    let private_key = front(&[25; 1216], given.private);
+    let key = front(&[26; 292], given.key);
+    let tree = front(&[27; 480], given.tree);
+    let share_data = front(&[28; 85], given.blocks);
+    match given.edition {
+        Edition::Sdmf => share_writing::write_sdmf(
             given.sequence,
-            front(&root, given.root),
+            root,
+            &[22; 16],
+            given.k,
+            10,
+            given.length,
+            key,
+            signature,
+            chain,
+            tree,
+            share_data,
+            private_key,
+            d,
+        ),
+        Edition::Mdmf => share_writing::write_mdmf(
+            given.sequence,
+            root,
             given.k,
             10,
             given.segment,
             given.length,
-            front(&private_key, given.private),
-            front(&chain, given.chain),
-            front(&signature, given.signature),
-            front(&key, given.key),
-            front(&spare, given.spare),
-            front(&blocks, given.blocks),
-            front(&tree, given.tree),
+            private_key,
+            chain,
+            signature,
+            key,
+            front(&[29; 5], given.spare),
+            share_data,
+            tree,
             d,
-        )
-    } else {
-        share_writing::write_sdmf(
-            given.sequence,
-            front(&root, given.root),
-            &iv,
-            given.k,
-            10,
-            given.length,
-            front(&key, given.key),
-            front(&signature, given.signature),
-            front(&chain, given.chain),
-            front(&tree, given.tree),
-            front(&blocks, given.blocks),
-            front(&private_key, given.private),
-            d,
-        )
+        ),
     }
 }
 
-fn number_at(s: &[u8], at: usize) -> u64 {
-    if 8 <= s.len() {
-        if at <= s.len() - 8 {
-            return numbers::u64_at(s, at);
-        }
-    }
-    0
-}
+// As the writers answer: their record is the C interface's.
+const TOO_SHORT: Written = Written {
+    number: 21,
+    length: 0,
+};
 
 // A share written again from the numbers of its header and the parts that the check hands back.
 fn sdmf_again(s: &[u8], d: &mut [u8]) -> Written {
-    if s.len() < 107 {
-        return Written {
-            number: 21,
-            length: 0,
-        };
-    }
+    let Some(header) = s.first_chunk::<107>() else {
+        return TOO_SHORT;
+    };
+    let numbers = Numbers::read(header, Edition::Sdmf);
     share_writing::write_sdmf(
-        number_at(s, 1),
-        &s[9..41],
-        &s[41..57],
-        s[57],
-        s[58],
-        number_at(s, 67),
-        share::key(s),
-        share::signature(s),
-        share::chain(s),
-        share::tree(s),
-        share::share_data(s),
-        share::private_key(s),
+        numbers.sequence,
+        &header[9..41],
+        &header[41..57],
+        numbers.required,
+        numbers.total,
+        numbers.data_length,
+        share::part(s, Part::Key),
+        share::part(s, Part::Signature),
+        share::part(s, Part::Chain),
+        share::part(s, Part::Tree),
+        share::part(s, Part::ShareData),
+        share::part(s, Part::PrivateKey),
         d,
     )
 }
 
+// MDMF's writer takes other numbers and its parts in another order, so the two stay apart.
 fn mdmf_again(s: &[u8], d: &mut [u8]) -> Written {
-    if s.len() < 123 {
-        return Written {
-            number: 21,
-            length: 0,
-        };
-    }
+    let Some(header) = s.first_chunk::<123>() else {
+        return TOO_SHORT;
+    };
+    let numbers = Numbers::read(header, Edition::Mdmf);
     share_writing::write_mdmf(
-        number_at(s, 1),
-        &s[9..41],
-        s[41],
-        s[42],
-        number_at(s, 43),
-        number_at(s, 51),
-        share::private_key(s),
-        share::chain(s),
-        share::signature(s),
-        share::key(s),
-        share::spare(s),
-        share::share_data(s),
-        share::tree(s),
+        numbers.sequence,
+        &header[9..41],
+        numbers.required,
+        numbers.total,
+        numbers.segment_size,
+        numbers.data_length,
+        share::part(s, Part::PrivateKey),
+        share::part(s, Part::Chain),
+        share::part(s, Part::Signature),
+        share::part(s, Part::Key),
+        share::part(s, Part::Spare),
+        share::part(s, Part::ShareData),
+        share::part(s, Part::Tree),
         d,
     )
 }
 
-fn write_again(mdmf: bool, s: &[u8], d: &mut [u8]) -> Written {
-    if mdmf {
-        mdmf_again(s, d)
-    } else {
-        sdmf_again(s, d)
-    }
+fn show_written(out: &mut impl Write, name: &str, written: Written) -> io::Result<()> {
+    writeln!(out, "{name}: {} {}", written.number, written.length)
 }
 
-// All but the first n bytes, or none where there are fewer.
-fn behind(s: &[u8], n: usize) -> &[u8] {
-    let e = s.len();
-    if e < n {
-        return &s[0..0];
-    }
-    &s[n..e]
+fn say(out: &mut impl Write, what: &str, a: &[u8], b: &[u8]) -> io::Result<()> {
+    writeln!(out, "{what}: {}", if a == b { "yes" } else { "NO" })
 }
 
-// The share of n bytes in d, whose space had been 255s as e is now; it is written again into e.
-fn there_and_back<W: Write>(
-    out: &mut W,
-    mdmf: bool,
-    d: &[u8],
-    n: usize,
-    e: &mut [u8],
-) -> io::Result<()> {
-    let s = front(d, n);
+// Of d and e, both 255s, d is written, and then e from what the check hands back of d.
+fn show_case(out: &mut impl Write, name: &str, given: &Given) -> io::Result<()> {
+    let mut d = [255; 2600];
+    let mut e = [255; 2600];
+    let space = given.space.min(2600);
+    let d = &mut d[..space];
+    let e = &mut e[..space];
+    let written = write(given, d);
+    show_written(out, name, written)?;
+    if written.number != 0 {
+        return say(out, "  the space is as it was", d, e);
+    }
+    let (s, behind) = d.split_at((written.length as usize).min(space));
     say(
         out,
-        b"  the bytes behind it are as they were",
-        behind(d, n),
-        behind(e, n),
+        "  the bytes behind it are as they were",
+        behind,
+        &e[s.len()..],
     )?;
-    show(out, b"  checked and read back", s)?;
-    show_written(out, b"  written again", write_again(mdmf, s, e))?;
-    say(out, b"  the space is the same again", d, e)
+    writeln!(out, "  checked and read back: {}", Judged::share(s))?;
+    let again = match given.edition {
+        Edition::Sdmf => sdmf_again(s, e),
+        Edition::Mdmf => mdmf_again(s, e),
+    };
+    show_written(out, "  written again", again)?;
+    say(out, "  the space is the same again", d, e)
 }
 
-fn case_in<W: Write>(
-    out: &mut W,
-    name: &[u8],
-    given: Given,
-    d: &mut [u8],
-    e: &mut [u8],
+// The share written into its own length, and the same with its parts stored by hand.
+fn show_by_hand<const N: usize>(
+    out: &mut impl Write,
+    name: &str,
+    given: &Given,
+    header: [u8; N],
+    parts: &[(usize, &[u8])],
 ) -> io::Result<()> {
-    let mdmf = given.mdmf;
-    let written = write(given, d);
-    let number = written.number;
-    let length = written.length;
-    show_written(out, name, written)?;
-    if number != 0 {
-        say(out, b"  the space is as it was", d, e)
-    } else {
-        there_and_back(out, mdmf, d, length as usize, e)
+    let mut s = header;
+    for &(at, part) in parts {
+        put(&mut s, at, part);
     }
+    let mut d = [255; N];
+    show_written(out, name, write(given, &mut d))?;
+    say(
+        out,
+        "  the bytes are those of the share built by hand",
+        &d,
+        &s,
+    )
 }
 
-fn case<W: Write>(out: &mut W, name: &[u8], given: Given) -> io::Result<()> {
-    let n = given.space;
-    if n <= 2600 {
-        let mut d = [255u8; 2600];
-        let mut e = [255u8; 2600];
-        case_in(out, name, given, &mut d[0..n], &mut e[0..n])?;
+pub(crate) fn run(out: &mut impl Write) -> io::Result<()> {
+    writeln!(out, "== SDMF shares that are written")?;
+    let header: [u8; 2043] = crate::sdmf::share();
+    show_by_hand(
+        out,
+        "the SDMF share, into its own length",
+        &SDMF,
+        header,
+        SDMF_PARTS,
+    )?;
+    for (name, given) in SDMF_CASES {
+        show_case(out, name, given)?;
+    }
+    writeln!(out, "== MDMF shares that are written")?;
+    let header: [u8; 2310] = crate::mdmf::share();
+    show_by_hand(
+        out,
+        "the MDMF share, into its own length",
+        &MDMF,
+        header,
+        MDMF_PARTS,
+    )?;
+    for (name, given) in MDMF_CASES {
+        show_case(out, name, given)?;
     }
     Ok(())
-}
-
-// The SDMF share stored at the places that P11 of docs/RULES.md names.
-fn build_sdmf_head(s: &mut [u8]) {
-    let root = [21u8; 32];
-    let iv = [22u8; 16];
-    crate::sdmf::fill(s);
-    store(s, 9, &root);
-    store(s, 41, &iv);
-    set8(s, 790, 24);
-}
-
-fn build_sdmf_parts(s: &mut [u8]) {
-    let key = [26u8; 292];
-    let signature = [23u8; 256];
-    let tree = [27u8; 32];
-    let blocks = [28u8; 4];
-    let private_key = [25u8; 1216];
-    store(s, 107, &key);
-    store(s, 399, &signature);
-    store(s, 791, &tree);
-    store(s, 823, &blocks);
-    store(s, 827, &private_key);
-}
-
-fn build_mdmf_head(s: &mut [u8]) {
-    let root = [21u8; 32];
-    crate::mdmf::fill(s);
-    store(s, 9, &root);
-    set8(s, 1474, 24);
-}
-
-fn build_mdmf_parts(s: &mut [u8]) {
-    let private_key = [25u8; 1216];
-    let signature = [23u8; 256];
-    let key = [26u8; 292];
-    let spare = [29u8; 5];
-    let blocks = [28u8; 58];
-    let tree = [27u8; 224];
-    store(s, 123, &private_key);
-    store(s, 1475, &signature);
-    store(s, 1731, &key);
-    store(s, 2023, &spare);
-    store(s, 2028, &blocks);
-    store(s, 2086, &tree);
-}
-
-fn sdmf_by_hand<W: Write>(out: &mut W) -> io::Result<()> {
-    let mut s = [0u8; 2043];
-    build_sdmf_head(&mut s);
-    build_sdmf_parts(&mut s);
-    let mut d = [255u8; 2043];
-    show_written(
-        out,
-        b"the SDMF share, into its own length",
-        write(sdmf(), &mut d),
-    )?;
-    say(
-        out,
-        b"  the bytes are those of the share built by hand",
-        &d,
-        &s,
-    )
-}
-
-fn mdmf_by_hand<W: Write>(out: &mut W) -> io::Result<()> {
-    let mut s = [0u8; 2310];
-    build_mdmf_head(&mut s);
-    build_mdmf_parts(&mut s);
-    let mut d = [255u8; 2310];
-    show_written(
-        out,
-        b"the MDMF share, into its own length",
-        write(mdmf(), &mut d),
-    )?;
-    say(
-        out,
-        b"  the bytes are those of the share built by hand",
-        &d,
-        &s,
-    )
-}
-
-fn sdmf_early<W: Write>(out: &mut W) -> io::Result<()> {
-    case(out, b"the SDMF share, into seven bytes more", sdmf())?;
-    let mut g = sdmf();
-    g.root = 31;
-    g.space = 1;
-    case(out, b"R of 31 bytes, into one byte", g)?;
-    let mut g = sdmf();
-    g.k = 0;
-    g.space = 1;
-    case(out, b"k 0, into one byte", g)?;
-    let mut g = sdmf();
-    g.space = 2042;
-    case(out, b"into 2,042 bytes", g)?;
-    let mut g = sdmf();
-    g.k = 0;
-    case(out, b"k 0", g)?;
-    let mut g = sdmf();
-    g.k = 2;
-    g.length = LARGEST;
-    case(out, b"data length 2^64 - 1, k 2", g)?;
-    let mut g = sdmf();
-    g.key = 0;
-    case(out, b"no key", g)
-}
-
-fn sdmf_late<W: Write>(out: &mut W) -> io::Result<()> {
-    let mut g = sdmf();
-    g.node = 31;
-    case(out, b"node number 31", g)?;
-    let mut g = sdmf();
-    g.tree = 0;
-    case(out, b"no tree", g)?;
-    let mut g = sdmf();
-    g.blocks = 5;
-    case(out, b"share data of 5 bytes", g)?;
-    let mut g = sdmf();
-    g.length = LARGEST;
-    case(out, b"data length 2^64 - 1, k 3", g)?;
-    let mut g = sdmf();
-    g.sequence = LARGEST;
-    case(out, b"sequence number 2^64 - 1", g)
-}
-
-fn mdmf_taken<W: Write>(out: &mut W) -> io::Result<()> {
-    case(out, b"the MDMF share, into seven bytes more", mdmf())?;
-    let mut g = mdmf();
-    g.spare = 0;
-    case(out, b"no spare byte", g)?;
-    let mut g = mdmf();
-    g.length = 0;
-    g.blocks = 0;
-    g.tree = 0;
-    case(out, b"no data, segment size 12", g)?;
-    let mut g = mdmf();
-    g.segment = 0;
-    g.length = 0;
-    g.blocks = 0;
-    g.tree = 0;
-    case(out, b"no data, segment size 0", g)
-}
-
-fn mdmf_taken_too<W: Write>(out: &mut W) -> io::Result<()> {
-    let mut g = mdmf();
-    g.segment = 3;
-    g.length = 15;
-    g.blocks = 85;
-    g.tree = 480;
-    g.space = 2600;
-    case(out, b"five segments", g)?;
-    let mut g = mdmf();
-    g.segment = LARGEST;
-    g.blocks = 26;
-    g.tree = 32;
-    case(out, b"segment size 2^64 - 1", g)?;
-    let mut g = mdmf();
-    g.private = 1;
-    g.signature = 1;
-    g.key = 1;
-    case(out, b"private key, signature and key of one byte", g)
-}
-
-fn mdmf_space<W: Write>(out: &mut W) -> io::Result<()> {
-    let mut g = mdmf();
-    g.root = 31;
-    g.space = 1;
-    case(out, b"R of 31 bytes, into one byte", g)?;
-    let mut g = mdmf();
-    g.root = 33;
-    case(out, b"R of 33 bytes", g)?;
-    let mut g = mdmf();
-    g.k = 0;
-    g.space = 1;
-    case(out, b"k 0, into one byte", g)?;
-    let mut g = mdmf();
-    g.space = 2309;
-    case(out, b"into 2,309 bytes", g)
-}
-
-fn mdmf_numbers<W: Write>(out: &mut W) -> io::Result<()> {
-    let mut g = mdmf();
-    g.k = 0;
-    g.segment = 10;
-    case(out, b"k 0 and segment size 10", g)?;
-    let mut g = mdmf();
-    g.k = 11;
-    case(out, b"k above N", g)?;
-    let mut g = mdmf();
-    g.segment = 10;
-    case(out, b"segment size 10", g)?;
-    let mut g = mdmf();
-    g.segment = 0;
-    case(out, b"segment size 0 with data", g)
-}
-
-fn mdmf_parts<W: Write>(out: &mut W) -> io::Result<()> {
-    let mut g = mdmf();
-    g.private = 0;
-    case(out, b"no private key", g)?;
-    let mut g = mdmf();
-    g.signature = 0;
-    case(out, b"no signature", g)?;
-    let mut g = mdmf();
-    g.key = 0;
-    case(out, b"no key", g)?;
-    let mut g = mdmf();
-    g.node = 31;
-    case(out, b"node number 31", g)?;
-    let mut g = mdmf();
-    g.chain = 135;
-    case(out, b"chain of 135 bytes", g)
-}
-
-fn mdmf_data<W: Write>(out: &mut W) -> io::Result<()> {
-    let mut g = mdmf();
-    g.tree = 0;
-    case(out, b"no tree", g)?;
-    let mut g = mdmf();
-    g.tree = 96;
-    case(out, b"a tree of 3 hashes", g)?;
-    let mut g = mdmf();
-    g.length = 0;
-    g.blocks = 0;
-    g.tree = 32;
-    case(out, b"no data and a tree of one hash", g)?;
-    let mut g = mdmf();
-    g.blocks = 57;
-    case(out, b"share data of 57 bytes", g)
-}
-
-fn mdmf_last<W: Write>(out: &mut W) -> io::Result<()> {
-    let mut g = mdmf();
-    g.length = LARGEST;
-    case(out, b"data length 2^64 - 1", g)?;
-    let mut g = mdmf();
-    g.segment = LARGEST;
-    g.length = LARGEST;
-    g.tree = 32;
-    case(out, b"data length and segment size 2^64 - 1", g)?;
-    let mut g = mdmf();
-    g.sequence = LARGEST;
-    case(out, b"sequence number 2^64 - 1", g)
-}
-
-pub(crate) fn run<W: Write>(out: &mut W) -> io::Result<()> {
-    crate::title(out, b"SDMF shares that are written")?;
-    sdmf_by_hand(out)?;
-    sdmf_early(out)?;
-    sdmf_late(out)?;
-    crate::title(out, b"MDMF shares that are written")?;
-    mdmf_by_hand(out)?;
-    mdmf_taken(out)?;
-    mdmf_taken_too(out)?;
-    mdmf_space(out)?;
-    mdmf_numbers(out)?;
-    mdmf_parts(out)?;
-    mdmf_data(out)?;
-    mdmf_last(out)
 }

@@ -193,9 +193,6 @@ module _ (c : List ℕ) (old : List LeaseRow) (n : ℕ) (d : Due c old n) (t : F
       row_then : get_or (rows_in c) t.done r ∷ drop (suc t.done) (rows_in c) ≡ r ∷ rows_from c next
       row_then = sym (drop-cons (rows_in c) t.done r (omega (arith, d.there))) ∙ sym t.left ∙ e
 
-      pub few_more : t.done + 1 ≤ n
-      few_more = omega arith
-
       pub left_more : rows_from c next ≡ drop (t.done + 1) (rows_in c)
       left_more = rw add-one (sym (ap (drop 1) row_then))
 

@@ -3,7 +3,7 @@
 use mathlib.Core.Path.{◌≡◌, refl, sym, ap, ap₂, ◌∙◌}
 use mathlib.Core.Bool.{Bool, true, false, cond}
 use mathlib.Core.List.{List, [], ◌++◌, append-nil, map, map-append}
-use Prim.Native.Nat.{ℕ, zero, suc, ◌+◌, ◌-◌, ◌*◌, ◌≤◌, ◌<◌}
+use Prim.Native.Nat.{ℕ, suc, ◌+◌, ◌-◌, ◌*◌, ◌≤◌, ◌<◌}
 use native.Mathlib.Omega.{arith}
 use lib.Dec.{eqb}
 use lib.ListN.{length, take, drop, replicate, length-drop, length-map, take-append-drop, drop_of_length-le}
@@ -19,7 +19,11 @@ use Rattle.octets.proofs.MoveLaws.{put-put, put_right, put-end, put-beyond, put-
 use Rattle.octets.proofs.NumberLaws.{length_digits}
 use Rattle.format.specs.Claims.{Place, Valid}
 use Rattle.format.specs.Container.{held, container_rows}
-use Rattle.format.specs.Judging.{Known}
+use Rattle.std.specs.Prelude.{Err}
+use Rattle.format.specs.Judging.{Judges, Known}
+use Rattle.format.specs.declared.judging.Flaw.{Flaw}
+use Rattle.format.specs.declared.judging.Flaw.TheVariants.{BadLength, Malformed}
+use Rattle.rules.specs.Refusals.{number_of, refusal_of}
 use Rattle.format.specs.Layout.{count_size, expiry_at, expiry_of, extras_at, fixed_places, lease_limit, leases_at, leases_of}
 use Rattle.format.specs.Layout.{record_size, records, count_at, extras_of}
 use Rattle.format.specs.Parts.{count_in, extras, front_of, head_of, no_lease, Parts, parts_of, tail_of}
@@ -49,11 +53,11 @@ swept_size time r l = go (expired time r)
     go true = no_lease_lem.size
     go false = l
 
--- the place at p is swept: n leases are left in it, and d are the bytes
-abbrev pub Swept : ℕ → ℕ → List ℕ → ℕ → List ℕ → Type 0
-Swept time p c n d =
+-- the place at p is swept: whether a lease is left in it, and d are the bytes
+abbrev pub Swept : ℕ → ℕ → List ℕ → Bool → List ℕ → Type 0
+Swept time p c b d =
     let r : List ℕ = take record_size (drop p c) in
-    (n ≡ cond (held (swept_place time r)) 1 0) × (d ≡ put p (swept_place time r) c)
+    (b ≡ held (swept_place time r)) × (d ≡ put p (swept_place time r) c)
 
 module _ (time p : ℕ) (c : List ℕ) (fits : p + record_size ≤ length c) where
   abbrev r : List ℕ
@@ -65,19 +69,19 @@ module _ (time p : ℕ) (c : List ℕ) (fits : p + record_size ≤ length c) whe
   put_same : put p r c ≡ c
   put_same = rw (place_size, ← take-add p record_size c) (take-append-drop (p + record_size) c)
 
-  stays : (b : Bool) → held r ≡ b → swept_place time r ≡ r → Swept time p c (cond b 1 0) c
+  stays : (b : Bool) → held r ≡ b → swept_place time r ≡ r → Swept time p c b c
   stays b h e = rw (e, h) (refl, sym put_same)
 
-  pub stays_empty : held r ≡ false → Swept time p c 0 c
+  pub stays_empty : held r ≡ false → Swept time p c false c
   unfolding swept_place expired
   stays_empty h = stays false h (rw h)
 
-  pub lasts : held r ≡ true → time ≤ number_at 4 (p + expiry_at) c → Swept time p c 1 c
+  pub lasts : held r ≡ true → time ≤ number_at 4 (p + expiry_at) c → Swept time p c true c
   unfolding swept_place expired
   lasts h e = stays true h (rw (h, le-ltb (expiry_of r) time (omega (arith, expiry_at_lem p c))))
 
   pub emptied : held r ≡ true → number_at 4 (p + expiry_at) c < time →
-      Swept time p c 0 (put p (replicate (p + record_size - p) 0) c)
+      Swept time p c false (put p (replicate (p + record_size - p) 0) c)
   unfolding swept_place expired no_lease
   emptied h e =
       let z : p + record_size - p ≡ record_size = omega arith in
@@ -101,48 +105,56 @@ one_most : (b : Bool) → cond b 1 0 ≤ 1
 one_most true = omega arith
 one_most false = omega arith
 
--- `left` places from `at` on are still to be swept in c: what is left, put into c, is the whole, put into c₀
-pub record Sweeping (time from n : ℕ) (c₀ : List ℕ) (left at count : ℕ) (c : List ℕ) : Type 0 where
+-- the places from i on are still to be swept in c: what is left, put into c, is the whole, put into c₀
+pub record Sweeping (time from n : ℕ) (c₀ : List ℕ) (i count : ℕ) (c : List ℕ) : Type 0 where
   pub long : length c ≡ length c₀
-  pub inside : at + record_size * left ≤ length c
-  pub few : count + left ≤ lease_limit
-  pub counted : present (swept_from time n from c₀) ≡ count + present (swept_from time left at c)
-  pub bytes : put from (join (swept_from time n from c₀)) c₀ ≡ put at (join (swept_from time left at c)) c
+  pub inside : from + record_size * n ≤ length c
+  pub few : count ≤ i
+  pub counted : present (swept_from time n from c₀) ≡ count + present (swept_from time (n - i) (from + record_size * i) c)
+  pub bytes : put from (join (swept_from time n from c₀)) c₀
+      ≡ put (from + record_size * i) (join (swept_from time (n - i) (from + record_size * i) c)) c
 
 module _ (time from n : ℕ) (c₀ : List ℕ) where
-  pub sweeping-none : from + record_size * n ≤ length c₀ → n ≤ lease_limit → Sweeping time from n c₀ n from 0 c₀
-  sweeping-none h l =
-      record { long = refl; inside = h; few = omega arith; counted = omega arith; bytes = refl }
+  pub sweeping-none : from + record_size * n ≤ length c₀ → Sweeping time from n c₀ 0 0 c₀
+  sweeping-none h =
+      let p : from + record_size * 0 ≡ from = omega arith in
+      let m : n - 0 ≡ n = omega arith in
+      record { long = refl; inside = h; few = omega arith; counted = rw (p, m) (omega arith); bytes = rw (p, m) refl }
 
-  pub sweeping_more : (left at count m : ℕ) (c d : List ℕ) → Sweeping time from n c₀ left at count c → 0 < left →
-      Swept time at c m d → Sweeping time from n c₀ (left - 1) (at + record_size) (count + m) d
+  -- a turn, by where its place begins and how many come behind it
+  sweeping_turn : (i count left at : ℕ) (b : Bool) (c d : List ℕ) → Sweeping time from n c₀ i count c → i < n →
+      n - i ≡ suc left → from + record_size * i ≡ at → from + record_size * (i + 1) ≡ at + record_size →
+      n - (i + 1) ≡ left → Swept time at c b d → Sweeping time from n c₀ (i + 1) (count + cond b 1 0) d
   unfolding records join present
-  sweeping_more zero at count m c d s h w = absurd (omega arith)
-  sweeping_more (suc left) at count m c d s h w =
-      let q : ℕ = at + record_size in
+  sweeping_turn i count left at b c d s h m p q l w =
       let r : List ℕ = swept_place time (take record_size (drop at c)) in
-      let i : q ≤ length c = omega (arith, s.inside) in
-      let lr : length r ≡ record_size = swept_size time _ (place_size time at c i) in
+      let f : at + record_size ≤ length c = omega (arith, s.inside) in
+      let lr : length r ≡ record_size = swept_size time _ (place_size time at c f) in
       let ld : length d ≡ length c = ap length w.1 ∙ put-length at r c (omega arith) in
-      let e : swept_from time left q d ≡ swept_from time left q c =
+      let e : swept_from time left (at + record_size) d ≡ swept_from time left (at + record_size) c =
       ap (map (swept_place time))
-      (ap (records left q) w.1 ∙ records-beyond left q at r c (omega arith) (omega arith)) in
-      let k : suc left - 1 ≡ left = omega arith in
-      rw k (record {
+      (ap (records left (at + record_size)) w.1 ∙ records-beyond left (at + record_size) at r c (omega arith) (omega arith)) in
+      record {
         long = ld ∙ s.long;
         inside = omega (arith, s.inside);
-        few = omega (arith, s.few, w.0, one_most (held r));
-        counted = rw e (omega (arith, s.counted, w.0));
+        few = omega (arith, s.few, one_most b);
+        counted = rw (q, l, e) (omega (arith, rw (m, p, ← w.0) at s.counted));
         bytes =
-            s.bytes
-            ∙ rw (e, w.1) (sym (put-put at q r (join (swept_from time left q c)) c (omega arith) (omega arith)));
-      })
+            rw (m, p) at s.bytes
+            ∙ rw (q, l, e, w.1) (sym (put-put at (at + record_size) r (join (swept_from time left (at + record_size) c)) c (omega arith) (omega arith)));
+      }
 
-  pub sweeping_all : (left at count : ℕ) (c : List ℕ) → Sweeping time from n c₀ left at count c → left ≤ 0 →
+  pub sweeping_more : (i count : ℕ) (b : Bool) (c d : List ℕ) → Sweeping time from n c₀ i count c → i < n →
+      Swept time (from + record_size * i) c b d → Sweeping time from n c₀ (i + 1) (count + cond b 1 0) d
+  sweeping_more i count b c d s h w =
+      sweeping_turn i count (n - (i + 1)) (from + record_size * i) b c d s h (omega arith) refl (omega arith) refl w
+
+  pub sweeping_all : (i count : ℕ) (c : List ℕ) → Sweeping time from n c₀ i count c → n ≤ i →
       (count ≡ present (swept_from time n from c₀)) × (c ≡ put from (join (swept_from time n from c₀)) c₀)
   unfolding records join present
-  sweeping_all zero at count c s h = (omega (arith, s.counted), sym (s.bytes ∙ put-end at [] c refl))
-  sweeping_all (suc left) at count c s h = absurd (omega arith)
+  sweeping_all i count c s h =
+      let m : n - i ≡ 0 = omega arith in
+      (omega (arith, rw m at s.counted), sym (s.bytes ∙ rw m (put-end (from + record_size * i) [] c refl)))
 
 -- ---- a judged container
 put_whole : (m r : List ℕ) → length m ≡ length r → put 0 r m ≡ r
@@ -265,12 +277,17 @@ module _ (c : List ℕ) (f : Frame) (k : Known c f) (o : Octets c) where
         }
 
 -- ---- what is answered
-pub sweep_refused : (c : List ℕ) (time n : ℕ) → suc n ≡ first_row (container_rows c) →
+sweep_refused : (c : List ℕ) (time n : ℕ) → suc n ≡ first_row (container_rows c) →
     (answer_of (suc n) no_node 0 ≡ sweep_answer c time) × (c ≡ swept_container c time)
 unfolding sweep_answer sweep_to sweep_outcome swept_container
 sweep_refused c time n e =
     let z : eqb (suc n) 0 ≡ false = ne_eqb (suc n) 0 (λ w. omega arith) in
     rw (← e, z) (refl, refl)
+
+pub sweep_flawed : (c : List ℕ) (time : ℕ) (e : Flaw) → Judges c (Err e) →
+    (answer_of (number_of (refusal_of e)) no_node 0 ≡ sweep_answer c time) × (c ≡ swept_container c time)
+sweep_flawed c time BadLength j = sweep_refused c time 0 j.number
+sweep_flawed c time Malformed j = sweep_refused c time 1 j.number
 
 pub sweep_done : (c : List ℕ) (time n : ℕ) (d : List ℕ) → 0 ≡ first_row (container_rows c) →
     (n ≡ present (swept time (leases_of c))) × (d ≡ leased_as c (swept time (leases_of c))) →

@@ -2,18 +2,17 @@
 ghost use Rattle.std.specs.Prelude.{◌≡◌, true, ◌∷◌, ◌+◌, ◌≤◌, ◌<◌, length, take, drop};
 ghost use Rattle.format.specs.Container.{well_formed};
 ghost use Rattle.format.specs.Judging.{Known};
-ghost use Rattle.format.specs.Layout.{leases_of, node_size, record_size, secret_size};
+ghost use Rattle.format.specs.Layout.{leases_of, record_size};
 ghost use Rattle.rules.specs.Leasing.{present};
+ghost use Rattle.rules.specs.Refusals.{answer_from};
 ghost use Rattle.upkeep_rules.specs.Auditing.{row_of, rows_of, audit_answer};
 
-use format::judging::Judged;
-use format::layout::{
-    CANCEL_AT, EXPIRY_AT, Frame, LEASE_NODE_AT, NODE_SIZE, OFFSET_AT, RENEWAL_AT, SECRET_SIZE,
-    SIZE_AT,
-};
-use leases::places::{count_leases, is_held};
+use format::layout::{CANCEL_AT, EXPIRY_AT, Frame, LEASE_NODE_AT, OFFSET_AT, RENEWAL_AT, SIZE_AT};
+use leases::places::{Places, is_held};
+use octets::moves::array_at;
+use octets::numbers::{u32_at, u64_at};
 use rules::Answer;
-use rules::answers::answer;
+use rules::outcomes::Refusal;
 use upkeep_rules::LeaseRow;
 
 // A lease's row, and the place behind it, from which the next lease is looked for.
@@ -23,37 +22,17 @@ pub struct Leased {
     pub next: usize,
 }
 
-fn token_at(c: &[u8], at: usize) -> [u8; SECRET_SIZE]
-    requires { at + secret_size ≤ length c.now }
-    ensures { result ≡ take secret_size (drop at c.now) }
-{
-    let e = at + SECRET_SIZE;
-    let mut token = [0; SECRET_SIZE];
-    octets::moves::copy(&mut token, &c[at..e]);
-    token
-}
-
-fn node_at(c: &[u8], at: usize) -> [u8; NODE_SIZE]
-    requires { at + node_size ≤ length c.now }
-    ensures { result ≡ take node_size (drop at c.now) }
-{
-    let e = at + NODE_SIZE;
-    let mut node = [0; NODE_SIZE];
-    octets::moves::copy(&mut node, &c[at..e]);
-    node
-}
-
 // The row of the record that begins at p.
 fn row_at(c: &[u8], p: usize) -> LeaseRow
     requires { p + record_size ≤ length c.now }
     ensures { result ≡ row_of (take record_size (drop p c.now)) }
 {
     LeaseRow {
-        owner: octets::numbers::u32_at(c, p),
-        expiry: octets::numbers::u32_at(c, p + EXPIRY_AT),
-        renewal: token_at(c, p + RENEWAL_AT),
-        cancel: token_at(c, p + CANCEL_AT),
-        node: node_at(c, p + LEASE_NODE_AT),
+        owner: u32_at(c, p),
+        expiry: u32_at(c, p + EXPIRY_AT),
+        renewal: array_at(c, p + RENEWAL_AT),
+        cancel: array_at(c, p + CANCEL_AT),
+        node: array_at(c, p + LEASE_NODE_AT),
     }
 }
 
@@ -62,11 +41,11 @@ fn frame_of(c: &[u8]) -> Frame
     requires { well_formed c.now ≡ true }
     ensures { Known c.now result }
 {
-    let offset = octets::numbers::u64_at(c, OFFSET_AT) as usize;
+    let offset = u64_at(c, OFFSET_AT) as usize;
     Frame {
-        size: octets::numbers::u64_at(c, SIZE_AT) as usize,
-        offset: offset,
-        extras: octets::numbers::u32_at(c, offset) as usize,
+        size: u64_at(c, SIZE_AT) as usize,
+        offset,
+        extras: u32_at(c, offset) as usize,
     }
 }
 
@@ -77,6 +56,7 @@ pub fn next_lease(c: &[u8], i: usize) -> Leased
 {
     let frame = frame_of(c);
     let mut at = i;
+    // No number bounds the walk: it ends because a lease is left.
     while !is_held(c, frame.place_at(at)) {
         at += 1;
     }
@@ -86,19 +66,21 @@ pub fn next_lease(c: &[u8], i: usize) -> Leased
     }
 }
 
+// How many rows of a table of so many the audit fills, or why none.
+fn rows_due(c: &[u8], room: usize) -> Result<usize, Refusal>
+    ensures { answer_from result ≡ audit_answer c.now room }
+{
+    let frame = format::judging::judge(c)?;
+    let count = Places { c, frame }.count();
+    if room < count {
+        return Err(Refusal::ShortReply);
+    }
+    Ok(count)
+}
+
 // What the audit answers to a table of so many rows. The count is how many of them it fills.
 pub fn audit_answer(c: &[u8], room: usize) -> Answer
     ensures { result ≡ audit_answer c.now room }
 {
-    match format::judging::judge(c) {
-        Judged::BadLength => answer(1, 0),
-        Judged::Malformed => answer(2, 0),
-        Judged::Formed(frame) => {
-            let count = count_leases(c, frame);
-            if room < count {
-                return answer(7, 0);
-            }
-            answer(0, count)
-        }
-    }
+    rows_due(c, room).into()
 }

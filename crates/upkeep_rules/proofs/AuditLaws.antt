@@ -14,6 +14,12 @@ use Rattle.format.specs.Container.{held, length_allowed, well_formed}
 use Rattle.format.specs.Parts.{Parts, parts_of, encode}
 use Rattle.format.specs.Claims.{Valid}
 use Rattle.format.proofs.RoundTrip.{encode_formed, parts_encode}
+use Rattle.std.specs.Prelude.{Err}
+use Rattle.format.specs.Judging.{Judges}
+use Rattle.format.specs.declared.judging.Flaw.{Flaw}
+use Rattle.format.specs.declared.judging.Flaw.TheVariants.{BadLength, Malformed}
+use Rattle.format.proofs.JudgingLaws.{judged-length, judged-malformed}
+use Rattle.rules.specs.Refusals.{number_of, refusal_of}
 use Rattle.rules.specs.Leasing.{present}
 use Rattle.rules.specs.Outcomes.{answer_of, no_node}
 use Rattle.rules.proofs.OutcomeLaws.{formed_length}
@@ -69,13 +75,17 @@ rows_empty r ls h = rw h
 
 -- ---- what the audit answers, at each of the tests
 module _ (c : List ℕ) (n : ℕ) where
-  pub answer-length : length_allowed c ≡ false → answer_of 1 no_node 0 ≡ audit_answer c n
+  answer-length : length_allowed c ≡ false → answer_of 1 no_node 0 ≡ audit_answer c n
   unfolding audit_answer audit_outcome audit_to first_row
   answer-length l = rw l
 
-  pub answer-malformed : length_allowed c ≡ true → well_formed c ≡ false → answer_of 2 no_node 0 ≡ audit_answer c n
+  answer-malformed : length_allowed c ≡ true → well_formed c ≡ false → answer_of 2 no_node 0 ≡ audit_answer c n
   unfolding audit_answer audit_outcome audit_to first_row
   answer-malformed l w = rw (l, w)
+
+  pub answer_flawed : (e : Flaw) → Judges c (Err e) → answer_of (number_of (refusal_of e)) no_node 0 ≡ audit_answer c n
+  answer_flawed BadLength j = answer-length (judged-length c j)
+  answer_flawed Malformed j = let m = judged-malformed c j in answer-malformed m.0 m.1
 
   pub answer_narrow : well_formed c ≡ true → n < present (leases_of c) → answer_of 7 no_node 0 ≡ audit_answer c n
   unfolding audit_answer audit_outcome audit_to first_row parts_of

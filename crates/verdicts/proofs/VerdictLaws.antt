@@ -1,34 +1,40 @@
 -- A test-and-write judged group by group, and what a verdict of 0 leaves room for. Assumes nothing.
 use mathlib.Core.Path.{◌≡◌, refl, sym, ap, ◌∙◌}
-use mathlib.Core.Bool.{Bool, not, ◌&&◌}
+use mathlib.Core.Bool.{Bool, true, false, not, ◌&&◌}
 use mathlib.Core.List.{List, [], ◌∷◌, ◌++◌, map}
 use mathlib.Core.Option.{Option, none, some}
-use Prim.Native.Nat.{ℕ, zero, suc, ◌+◌, ◌≤◌}
+use Prim.Native.Nat.{ℕ, zero, suc, ◌+◌, ◌≤◌, ◌<◌}
 use native.Mathlib.Omega.{arith}
-use lib.Dec.{ltb}
+use lib.Dec.{eqb, ltb}
 use lib.ListN.{length, take, drop, length-take}
 use Rattle.format.specs.declared.layout.Frame.{Frame}
 use Rattle.requests.specs.declared.forms.Parted.{Parted}
-use Rattle.replies.specs.declared.pieces.Measured.{Measured}
-use Rattle.writes.specs.declared.sizes.Reached.{Reached}
+use Rattle.std.specs.Prelude.{Result, Ok, Err, Some, None}
+use Rattle.std.proofs.lemmas.Option.{cond_some, none-some}
+use Rattle.octets.proofs.ListLaws.{by_refuting}
+use Rattle.writes.specs.Sizes.{reached_by}
+use Rattle.rules.specs.declared.outcomes.Refusal.{Refusal}
+use Rattle.rules.specs.declared.outcomes.Refusal.TheVariants.{BeforeStart, WrongEnabler, ShortReply, NoRoom}
+use Rattle.verdicts.specs.declared.writing.Due.{Due}
 use Rattle.verdicts.specs.declared.writing.Verdict.{Verdict}
-use Rattle.verdicts.specs.Writing.{Decided, verdict_of}
+use Rattle.verdicts.specs.declared.writing.Verdict.TheVariants.{TestFalse, Accepted}
+use Rattle.verdicts.specs.Writing.{Decided, Tells, due_of, verdict_of}
 use Rattle.format.specs.Judging.{Known}
-use Rattle.octets.proofs.RowLaws.{Numbered, rows_first, rows_second}
 use Rattle.rules.specs.Requests.{Request, Write, writes_from, entry_count, entry_offset, entry_size, sum_from}
-use Rattle.octets.specs.Rows.{Row, first_row, row}
+use Rattle.octets.specs.Rows.{first_row, row}
+use borrow.Author.Tests.{lt-ltb, le-ltb}
 use Rattle.rules.specs.Outcomes.{after, reply_to, rows, admit_rows}
 use Rattle.rules.specs.Outcomes.{with_bytes, find_rows, room_rows}
 use Rattle.requests.specs.Forms.{cut_in, PartedIn, write_in, tests_in, writes_in}
 use Rattle.rules.specs.Sizes.{cut_size, final_size, size_all}
-use Rattle.format.specs.Layout.{secret_size, data_of, used_length, enabler_of, moved_count}
+use Rattle.format.specs.Layout.{data_at, secret_size, data_of, used_length, enabler_of, moved_count}
 use Rattle.octets.specs.Lists.{every}
 use Rattle.rules.specs.Writing.{grow, rewritten, placed, writes_resolve}
 use Rattle.format.specs.Parts.{parts_of, used, Parts}
-use Rattle.replies.specs.Pieces.{pieces_in, measured_of}
+use Rattle.replies.specs.Pieces.{pieces_in, resolve_from, measured_of}
 use Rattle.writes.specs.Rewrite.{Final}
-use Rattle.rules.specs.Testing.{resolves, test_piece, holds, position}
-use Rattle.format.proofs.KnownLaws.{frame_count, frame_extras, data_framed}
+use Rattle.rules.specs.Testing.{resolves, test_piece, holds, position, reply_of}
+use Rattle.format.proofs.KnownLaws.{frame_count, frame_extras, data_framed, lent, data_lent_lem}
 use Rattle.rules.proofs.Kept.{after_valid, used-rewritten}
 use Rattle.rules.proofs.WriteLaws.{length-cut_to, length-write_all}
 use Rattle.octets.specs.Strings.{same}
@@ -84,128 +90,188 @@ after-used c q f t s k e =
     (bytes_after c q t ∙ e))
 
 -- ---- the verdict by what the code finds
--- What is measured first: d, the data as the code takes it; m, what the tests ask; x, what the writes reach; s, the
--- final size.
-pub record Found (c q d : List ℕ) (f : Frame) (t : Parted) (m : Measured) (x : Reached) (s : ℕ) : Type 0 where
+-- No row behind the fourth has its number.
+not_four : (a b d e : Bool) → eqb (first_row (row 5 a ∷ row 7 b ∷ row 8 d ∷ row 11 e ∷ [])) 4 ≡ false
+unfolding first_row
+not_four true b d e = refl
+not_four false true d e = refl
+not_four false false true e = refl
+not_four false false false true = refl
+not_four false false false false = refl
+
+-- d is the data as the code takes it.
+pub record Judging (c q d : List ℕ) (f : Frame) (t : Parted) : Type 0 where
   pub known : Known c f
   pub parted : PartedIn q t
   pub bytes : d ≡ data_of c
-  pub measured : m ≡ measured_of t.tests q d
-  pub reached : x ≡ reached_by (writes_in t q) f.size
-  pub final : s ≡ cut_size (cut_in t.cut) x.size
 
-module _ {c q d : List ℕ} {f : Frame} {t : Parted} {m : Measured} {x : Reached} {s : ℕ}
-    (F : Found c q d f t m x s) where
+pub judging : {c q : List ℕ} {f : Frame} {t : Parted} {to : ℕ} → Known c f × PartedIn q t → to ≡ data_at + f.size
+    → Judging c q (lent c to) f t
+judging h e = record { known = h.0; parted = h.1; bytes = data_lent_lem h.0 e }
+
+module _ {c q d : List ℕ} {f : Frame} {t : Parted} (J : Judging c q d f t) where
   abbrev asks : Request
   asks = write_in t q
 
-  final_is : length (after (parts_of c) asks).bytes ≡ s
+  -- The size that the writes reach, and the final size.
+  abbrev pub reached : ℕ
+  reached = size_all (placed (writes_in t q) f.size) f.size
+
+  abbrev final : ℕ
+  final = cut_size (cut_in t.cut) reached
+
+  final_is : length (after (parts_of c) asks).bytes ≡ final
   unfolding final_size parts_of
-  final_is = after_size (parts_of c) q t ∙ rw (data_framed F.known) (sym (F.final ∙ rw F.reached))
+  final_is = after_size (parts_of c) q t ∙ rw (data_framed J.known)
 
   pieces_are : pieces_in t.tests q d ≡ map (test_piece (data_of c)) (tests_in t q)
   pieces_are =
-      rw (F.bytes, F.parted.tests_stride)
+      rw (J.bytes, J.parted.tests_stride)
       (sym (test_pieces t.tests.count t.tests.first.at t.specimens.at q (data_of c)))
 
-  reply_is : length (reply_to (parts_of c) asks) ≡ m.length
-  unfolding reply_to parts_of
-  reply_is = sym (ap (λ (y : Measured). y.length) F.measured ∙ rw pieces_are)
+  abbrev reply : ℕ
+  reply = length (reply_of (pieces_in t.tests q d))
 
-  resolves_is : (every (λ u. resolves u.offset (length (data_of c))) (tests_in t q)
-      && writes_resolve (writes_in t q) (length (data_of c))) ≡ (m.resolves && x.resolves)
-  resolves_is =
-      rw (data_framed F.known, F.measured, F.reached, F.bytes, F.parted.tests_stride, data_framed F.known)
+  reply_is : length (reply_to (parts_of c) asks) ≡ reply
+  unfolding reply_to parts_of
+  reply_is = rw pieces_are
+
+  used-after : used (after (parts_of c) asks) ≡ used_length (moved_count f.offset final) f.extras
+  used-after = after-used c q f t final J.known final_is
+
+  -- Whether every offset of the tests resolves, and every offset of the writes.
+  abbrev tests_resolve : Bool
+  tests_resolve = resolve_from t.tests.stride t.tests.count t.tests.first.at q (length d)
+
+  abbrev writes_do : Bool
+  writes_do = writes_resolve (writes_in t q) f.size
+
+  resolves_are : (every (λ u. resolves u.offset (length (data_of c))) (tests_in t q)
+      && writes_resolve (writes_in t q) (length (data_of c))) ≡ (tests_resolve && writes_do)
+  resolves_are =
+      rw (J.bytes, J.parted.tests_stride, data_framed J.known)
       (ap (λ (b : Bool). b && writes_resolve (writes_in t q) f.size)
       (test_resolve t.tests.count t.tests.first.at t.specimens.at q f.size))
 
-  used-after : used (after (parts_of c) asks) ≡ used_length (moved_count f.offset s) f.extras
-  used-after = after-used c q f t s F.known final_is
+  abbrev enables : Bool
+  enables = same (bytes_from t.enabler secret_size q) (enabler_of c)
 
-  pub final_bound : (s ≤ x.size) × (x.size ≤ 2147483647 + f.size + length q)
-  final_bound = (
-    omega (arith, F.final, cut_bound (cut_in t.cut) x.size),
-    omega (
-      arith,
-      ap (λ (y : Reached). y.size) F.reached,
-      reach_bound t.writes.count t.writes.first.at t.bodies.at q f.size (2147483647 + f.size)
-          (omega arith) (omega arith) F.parted.bodies,
-    ),
-  )
+  -- A reply of m bytes, a final size of s bytes, and a reply space of n bytes.
+  module _ (m s n : ℕ) (i : reply ≡ m) (j : final ≡ s) where
+    judged_is : verdict_of (parts_of c) asks n ≡ record {
+      number = first_row (row 4 (not (tests_resolve && writes_do)) ∷ row 5 (not enables) ∷ row 7 (ltb n m)
+          ∷ row 8 (not (every (holds d) (tests_in t q)))
+          ∷ row 11 (ltb (length c) (used_length (moved_count f.offset s) f.extras)) ∷ []);
+      reply = m;
+      size = s;
+    }
+    unfolding verdict_of rows admit_rows find_rows room_rows parts_of
+    judged_is = rw (resolves_are, reply_is, used-after, final_is, i, j, J.bytes)
 
-  -- The three groups of rows, as the code judges them.
-  module _ (space : ℕ) where
-    abbrev pub admits : List Row
-    admits = row 4 (not (m.resolves && x.resolves))
-        ∷ row 5 (not (same (bytes_from t.enabler secret_size q) (enabler_of c))) ∷ []
+  -- The ways out, in the order of the rows, beside a reply space of n bytes.
+  module _ (n : ℕ) where
+    abbrev Told : Result Verdict Refusal → Type 0
+    Told v = Tells v (verdict_of (parts_of c) asks n)
 
-    abbrev pub finds : List Row
-    finds = row 7 (ltb space m.length) ∷ row 8 (not (every (holds d) (tests_in t q))) ∷ []
+    pub undue_tests : measured_of t.tests q d ≡ None → due_of (verdict_of (parts_of c) asks n) ≡ None
+    unfolding first_row
+    undue_tests w =
+        let y : tests_resolve ≡ false = by_refuting tests_resolve (λ h. none-some reply (sym w ∙ rw h)) in
+        rw (judged_is _ _ n refl refl, y) refl
 
-    abbrev pub fits : List Row
-    fits = row 11 (ltb (length c) (used_length (moved_count f.offset s) f.extras)) ∷ []
+    pub unmeasured : measured_of t.tests q d ≡ None → Told (Err BeforeStart)
+    unfolding first_row
+    unmeasured w =
+        let y : tests_resolve ≡ false = by_refuting tests_resolve (λ h. none-some reply (sym w ∙ rw h)) in
+        rw (judged_is _ _ n refl refl, y) (record { number = refl; lengths = tt })
 
-    rows_are : rows (parts_of c) asks space ++ room_rows (parts_of c) asks ≡ (admits ++ finds) ++ fits
-    unfolding rows admit_rows find_rows room_rows parts_of
-    rows_are = rw (resolves_is, reply_is, used-after, F.bytes)
+    -- The tests ask for m bytes, and the writes reach the size r.
+    module _ {m : ℕ} (w : measured_of t.tests q d ≡ Some m) where
+      pub unreached : reached_by (writes_in t q) f.size ≡ None → Told (Err BeforeStart)
+      unfolding first_row
+      unreached x =
+          let y : writes_do ≡ false = by_refuting writes_do (λ h. none-some reached (sym x ∙ rw h)) in
+          rw (judged_is _ _ n refl refl, (cond_some tests_resolve reply m w).0, y)
+          (record { number = refl; lengths = tt })
 
-    verdict_is : (k : ℕ) → k ≡ first_row ((admits ++ finds) ++ fits)
-        → record { number = k; reply = m.length; size = s } ≡ verdict_of (parts_of c) asks space
-    unfolding verdict_of
-    verdict_is k e = sym (rw (rows_are, reply_is, final_is, e))
+      pub undue_writes : reached_by (writes_in t q) f.size ≡ None → due_of (verdict_of (parts_of c) asks n) ≡ None
+      unfolding first_row
+      undue_writes x =
+          let y : writes_do ≡ false = by_refuting writes_do (λ h. none-some reached (sym x ∙ rw h)) in
+          rw (judged_is _ _ n refl refl, (cond_some tests_resolve reply m w).0, y) refl
 
-    admits_numbered : Numbered admits
-    admits_numbered = (omega arith, (omega arith, tt))
+      module _ {r : ℕ} (x : reached_by (writes_in t q) f.size ≡ Some r) where
+        found : (s : ℕ) → s ≡ cut_size (cut_in t.cut) r → verdict_of (parts_of c) asks n ≡ record {
+          number = first_row (row 5 (not enables) ∷ row 7 (ltb n m) ∷ row 8 (not (every (holds d) (tests_in t q)))
+              ∷ row 11 (ltb (length c) (used_length (moved_count f.offset s) f.extras)) ∷ []);
+          reply = m;
+          size = s;
+        }
+        unfolding first_row
+        found s z =
+            let i = cond_some tests_resolve reply m w in
+            let j = cond_some writes_do reached r x in
+            judged_is m s n i.1 (ap (cut_size (cut_in t.cut)) j.1 ∙ sym z) ∙ rw (i.0, j.0)
 
-    both_numbered : Numbered (admits ++ finds)
-    both_numbered = (omega arith, (omega arith, (omega arith, (omega arith, tt))))
+        pub final_small : (s : ℕ) → s ≡ cut_size (cut_in t.cut) r → (s ≤ r) × (r ≤ 2147483647 + f.size + length q)
+        final_small s z =
+            let j = cond_some writes_do reached r x in
+            let b = reach_bound t.writes.count t.writes.first.at t.bodies.at q f.size (2147483647 + f.size)
+            (omega arith) (omega arith) J.parted.bodies in
+            (omega (arith, cut_bound (cut_in t.cut) r), omega arith)
 
-    pub admit_verdict : (k : ℕ) → k ≡ first_row admits → (k ≡ 0 → ⊥)
-        → record { number = k; reply = m.length; size = s } ≡ verdict_of (parts_of c) asks space
-    admit_verdict k e h =
-        let a : first_row (admits ++ finds) ≡ k = rows_first admits finds admits_numbered (λ z. h (e ∙ z)) ∙ sym e in
-        verdict_is k (sym (rows_first (admits ++ finds) fits both_numbered (λ z. h (sym a ∙ z)) ∙ a))
+        pub due_found : (s : ℕ) → s ≡ cut_size (cut_in t.cut) r
+            → due_of (verdict_of (parts_of c) asks n) ≡ Some (record { reply = m; size = s })
+        due_found s z = rw (found s z, not_four (not enables) (ltb n m) (not (every (holds d) (tests_in t q))) _) refl
 
-    module _ (j : ℕ) (i : j ≡ first_row admits) (z : j ≡ 0) where
-      after_admit : first_row (admits ++ finds) ≡ first_row finds
-      after_admit = rows_second admits finds admits_numbered (sym i ∙ z)
+        pub wrong_enabler : enables ≡ false → Told (Err WrongEnabler)
+        unfolding first_row
+        wrong_enabler e = rw (found _ refl, e) (record { number = refl; lengths = tt })
 
-      pub find_verdict : (k : ℕ) → k ≡ first_row finds → (k ≡ 0 → ⊥)
-          → record { number = k; reply = m.length; size = s } ≡ verdict_of (parts_of c) asks space
-      find_verdict k e h =
-          let a : first_row (admits ++ finds) ≡ k = after_admit ∙ sym e in
-          verdict_is k (sym (rows_first (admits ++ finds) fits both_numbered (λ y. h (sym a ∙ y)) ∙ a))
+        module _ (e : enables ≡ true) where
+          pub short_reply : n < m → Told (Err ShortReply)
+          unfolding first_row
+          short_reply l = rw (found _ refl, e, lt-ltb n m l) (record { number = refl; lengths = tt })
 
-      pub fit_verdict : (l k : ℕ) → l ≡ first_row finds → l ≡ 0 → k ≡ first_row fits
-          → record { number = k; reply = m.length; size = s } ≡ verdict_of (parts_of c) asks space
-      fit_verdict l k e h g =
-          verdict_is k
-          (sym (rows_second (admits ++ finds) fits both_numbered (after_admit ∙ sym e ∙ h) ∙ sym g))
+          module _ (l : m ≤ n) where
+            pub test_false : every (holds d) (tests_in t q) ≡ false → Told (Ok (TestFalse m))
+            unfolding first_row
+            test_false h = rw (found _ refl, e, le-ltb n m l, h) (record { number = refl; lengths = refl })
 
--- ---- a verdict that is known
-module _ {c q : List ℕ} {f : Frame} {t : Parted} {v : Verdict} (D : Decided c q f t v) where
-  number_decided : v.number
-      ≡ first_row (rows (parts_of c) (write_in t q) D.space ++ room_rows (parts_of c) (write_in t q))
+            module _ (h : every (holds d) (tests_in t q) ≡ true) (s : ℕ) (z : s ≡ cut_size (cut_in t.cut) r) where
+              pub no_room : length c < used_length (moved_count f.offset s) f.extras → Told (Err NoRoom)
+              unfolding first_row
+              no_room k =
+                  rw (found s z, e, le-ltb n m l, h, lt-ltb _ _ k) (record { number = refl; lengths = tt })
+
+              pub accepted : used_length (moved_count f.offset s) f.extras ≤ length c
+                  → Told (Ok (Accepted record { reply = m; size = s }))
+              unfolding first_row
+              accepted k =
+                  rw (found s z, e, le-ltb n m l, h, le-ltb _ _ k) (record { number = refl; lengths = (refl, refl) })
+
+-- ---- a request that is accepted
+module _ {c q : List ℕ} {f : Frame} {t : Parted} {v : Due} (D : Decided c q f t v) where
+  number_decided : first_row (rows (parts_of c) (write_in t q) D.space ++ room_rows (parts_of c) (write_in t q)) ≡ 0
   unfolding verdict_of
-  number_decided = ap (λ (x : Verdict). x.number) D.verdict
+  number_decided = D.number
 
   size_decided : v.size ≡ length (after (parts_of c) (write_in t q)).bytes
   unfolding verdict_of
-  size_decided = ap (λ (x : Verdict). x.size) D.verdict
+  size_decided = D.size
 
   used_decided : used (after (parts_of c) (write_in t q)) ≡ used_length (moved_count f.offset v.size) f.extras
   used_decided = after-used c q f t v.size D.known (sym size_decided)
 
-  fits_decided : v.number ≡ 0 → used (after (parts_of c) (write_in t q)) ≤ length c
+  fits_decided : used (after (parts_of c) (write_in t q)) ≤ length c
   unfolding after with_bytes parts_of
-  fits_decided e =
-      (after_valid (parts_of c) (write_in t q) D.space (parts_valid c D.known.formed) tt (sym number_decided
-      ∙ e)).fits
+  fits_decided =
+      (after_valid (parts_of c) (write_in t q) D.space (parts_valid c D.known.formed) tt number_decided).fits
 
-  -- A verdict of 0 has room for the final size.
-  pub room : v.number ≡ 0 → Final q t f v.size (length c)
+  -- There is room for the final size.
+  pub room : Final q t f v.size (length c)
   unfolding parts_of
-  room e = record {
+  room = record {
     size = size_decided ∙ after_size (parts_of c) q t ∙ rw (data_framed D.known);
-    fits = rw used_decided at (fits_decided e);
+    fits = rw used_decided at fits_decided;
   }

@@ -1,10 +1,9 @@
 -- What the sizes are found to be before anything is written.
 use Rattle.std.specs.Prelude.{ℕ, zero, suc, ◌-◌, min, cond, List, [], ◌∷◌, length, ltb}
+use Rattle.std.specs.Prelude.{Option, Some, None}
 use Rattle.rules.specs.Requests.{Write}
 use Rattle.rules.specs.Writing.{Placed, grow, placed, writes_resolve}
 use Rattle.rules.specs.Sizes.{size_all}
-use Rattle.writes.specs.declared.sizes.Reached.{Reached}
-use Rattle.writes.specs.declared.sizes.Walked.{Walked}
 
 -- The end of the last gap, b so far: a write of k bytes past the size n leaves one up to its position.
 unfoldable pub gap_end : ℕ → ℕ → ℕ → ℕ → ℕ
@@ -18,17 +17,9 @@ last_gap [] n b = b
 last_gap (w ∷ ws) n b =
     last_gap ws (grow n w.at (length w.bytes)) (gap_end b n w.at (length w.bytes))
 
--- Whether every offset resolves, and the size after the writes.
-abbrev pub reached_by : List Write → ℕ → Reached
-reached_by ws size = record { resolves = writes_resolve ws size; size = size_all (placed ws size) size }
-
--- Both, and the end of the last gap, which is the size where there is none.
-abbrev pub walked_by : List Write → ℕ → Walked
-walked_by ws size = record {
-  resolves = writes_resolve ws size;
-  size = size_all (placed ws size) size;
-  end = last_gap (placed ws size) size size;
-}
+-- The size after the writes, where every offset resolves.
+abbrev pub reached_by : List Write → ℕ → Option ℕ
+reached_by ws size = cond (writes_resolve ws size) (Some (size_all (placed ws size) size)) None
 
 -- How many of the bytes that data of a size grows by, to f bytes, must be cleared: those up to the last gap's end.
 abbrev pub bare_by : List Write → ℕ → ℕ → ℕ

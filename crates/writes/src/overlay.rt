@@ -8,7 +8,7 @@ ghost use Rattle.requests.specs.Forms.{PartedIn, writes_in};
 use crate::sizes::grown;
 use requests::cursors::ENTRY_SIZE;
 use requests::forms::Parted;
-use requests::offsets::resolve;
+use requests::offsets::position;
 
 // One write, clipped to the data: nothing where it begins past the end.
 fn overlay_one(d: &mut [u8], position: usize, bytes: &[u8])
@@ -18,7 +18,7 @@ fn overlay_one(d: &mut [u8], position: usize, bytes: &[u8])
     if d.len() <= position {
         return;
     }
-    let n = octets::choices::lesser(d.len() - position, bytes.len());
+    let n = (d.len() - position).min(bytes.len());
     octets::moves::copy_part(d, position, &bytes[..n]);
 }
 
@@ -29,19 +29,16 @@ pub(crate) fn overlay_all(d: &mut [u8], q: &[u8], t: Parted, size: usize)
         ≡ write_all (map (clip (length d.old)) (placed (writes_in t q.now) size))
         d.old }
 {
-    let table = t.writes;
-    let mut left = table.count;
-    let mut cursor = table.first;
+    let mut cursor = t.writes.first;
     let mut bodies = t.bodies;
     let mut after = size;
-    while 0 < left {
+    for _ in 0..t.writes.count {
         let entry = cursor.entry(q, ENTRY_SIZE);
-        let place = resolve(entry.offset, after);
+        let place = position(entry.offset, after);
         let body = bodies.body(q, entry.count);
-        overlay_one(d, place.position, body.bytes(q));
-        after = grown(after, place.position, entry.count);
+        overlay_one(d, place, body.bytes(q));
+        after = grown(after, place, entry.count);
         bodies = body.next;
         cursor = entry.next;
-        left -= 1;
     }
 }

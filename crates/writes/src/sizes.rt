@@ -4,26 +4,11 @@ ghost use Rattle.format.specs.Layout.{limit};
 ghost use Rattle.rules.specs.Writing.{grow};
 ghost use Rattle.rules.specs.Sizes.{cut_size};
 ghost use Rattle.requests.specs.Forms.{PartedIn, writes_in, cut_in};
-ghost use Rattle.writes.specs.Sizes.{gap_end, reached_by, walked_by, bare_by};
+ghost use Rattle.writes.specs.Sizes.{gap_end, reached_by, bare_by};
 
 use requests::cursors::ENTRY_SIZE;
-use requests::forms::{Cut, Parted};
-use requests::offsets::resolve;
-
-// Whether every offset resolves, each on the size that the writes before it give, and the size after all of them.
-#[derive(Clone, Copy)]
-pub struct Reached {
-    pub resolves: bool,
-    pub size: usize,
-}
-
-// The same, and where the last gap ends that they leave on the way: behind it they cover all that they add.
-#[derive(Clone, Copy)]
-struct Walked {
-    resolves: bool,
-    size: usize,
-    end: usize,
-}
+use requests::forms::Parted;
+use requests::offsets::{position, resolve};
 
 // The size after one write, for crates above too.
 pub fn grown(size: usize, position: usize, count: usize) -> usize
@@ -33,80 +18,59 @@ pub fn grown(size: usize, position: usize, count: usize) -> usize
     if count == 0 {
         return size;
     }
-    if size < position + count {
-        return position + count;
-    }
-    size
+    size.max(position + count)
 }
 
 // The end of the last gap after one write.
 fn gap_end(end: usize, size: usize, position: usize, count: usize) -> usize
     ensures { result ≡ gap_end end size position count }
 {
-    if 0 < count {
-        if size < position {
-            return position;
-        }
-    }
-    end
-}
-
-// The table of the writes, an entry at a time.
-fn walk(q: &[u8], t: Parted, size: usize) -> Walked
-    requires { PartedIn q.now t × (size ≤ limit) }
-    ensures { result ≡ walked_by (writes_in t q.now) size }
-{
-    let table = t.writes;
-    let mut left = table.count;
-    let mut cursor = table.first;
-    let mut resolves = true;
-    let mut after = size;
-    let mut end = size;
-    while 0 < left {
-        let entry = cursor.entry(q, ENTRY_SIZE);
-        let place = resolve(entry.offset, after);
-        resolves = octets::choices::both(resolves, place.resolves);
-        end = gap_end(end, after, place.position, entry.count);
-        after = grown(after, place.position, entry.count);
-        cursor = entry.next;
-        left -= 1;
-    }
-    Walked {
-        resolves: resolves,
-        size: after,
-        end: end,
+    if 0 < count && size < position {
+        position
+    } else {
+        end
     }
 }
 
-// The size after the writes.
-pub fn reach(q: &[u8], t: Parted, size: usize) -> Reached
+// The size after the writes, if every offset resolves, each on the size that the writes before it give.
+pub fn reach(q: &[u8], t: Parted, size: usize) -> Option<usize>
     requires { PartedIn q.now t × (size ≤ limit) }
     ensures { result ≡ reached_by (writes_in t q.now) size }
 {
-    let walked = walk(q, t, size);
-    Reached {
-        resolves: walked.resolves,
-        size: walked.size,
+    let mut cursor = t.writes.first;
+    let mut after = size;
+    for _ in 0..t.writes.count {
+        let entry = cursor.entry(q, ENTRY_SIZE);
+        let place = resolve(entry.offset, after)?;
+        after = grown(after, place, entry.count);
+        cursor = entry.next;
     }
+    Some(after)
 }
 
-// How many of the bytes that the data grows by, to f bytes, must be cleared: the writes fill the others.
+// How many of the bytes that the data grows by, to f bytes, must be cleared: the writes fill the others, which is all
+// behind the last gap that they leave on the way.
 pub(crate) fn bare(q: &[u8], t: Parted, size: usize, f: usize) -> usize
     requires { PartedIn q.now t × (size ≤ limit) × (size ≤ f) }
     ensures { result ≡ bare_by (writes_in t q.now) size f }
 {
-    let walked = walk(q, t, size);
-    octets::choices::lesser(walked.end, f) - size
+    let mut cursor = t.writes.first;
+    let mut after = size;
+    let mut gap = size;
+    for _ in 0..t.writes.count {
+        let entry = cursor.entry(q, ENTRY_SIZE);
+        let place = position(entry.offset, after);
+        gap = gap_end(gap, after, place, entry.count);
+        after = grown(after, place, entry.count);
+        cursor = entry.next;
+    }
+    gap.min(f) - size
 }
 
-// The size after the cut.
-pub fn cut_size(size: usize, cut: Cut) -> usize
+// The size after the cut, if any.
+#[tactic(auto, unfolding(rules::specs::Sizes::cut_size))]
+pub fn cut_size(size: usize, cut: Option<usize>) -> usize
     ensures { result ≡ cut_size (cut_in cut) size }
 {
-    if cut.set {
-        if cut.length < size {
-            return cut.length;
-        }
-    }
-    size
+    cut.map_or(size, |length| length.min(size))
 }

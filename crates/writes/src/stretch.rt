@@ -17,7 +17,7 @@ fn raise(p: &mut [u8], s: usize, z: usize, t: usize)
 {
     let end = p.len() - t;
     octets::moves::move_up(p, s, end, t);
-    octets::moves::clear_part(p, s, octets::choices::greater(s, z));
+    octets::moves::clear_part(p, s, s.max(z));
 }
 
 // The data gets room for f bytes, past its slack. Of those that it grows by, the first z are zeros then.

@@ -2,58 +2,61 @@
 // its own behind the verdict settles it itself.
 #![tactic(auto)]
 
-ghost use Rattle.std.specs.Prelude.{◌≡◌, length};
+ghost use Rattle.std.specs.Prelude.{◌≡◌, ◌≤◌, cond, eqb, length};
+ghost use Rattle.format.specs.Layout.{least, node_of};
 ghost use Rattle.format.specs.Judging.{Known};
-ghost use Rattle.rules.specs.Outcomes.{replies, answered, container_after, reply_after};
+ghost use Rattle.rules.specs.Outcomes.{answer_of, no_node, answered, container_after, reply_after};
+ghost use Rattle.rules.specs.Refusals.{number_of};
 ghost use Rattle.requests.specs.Forms.{WriteRequest, write_in};
 ghost use Rattle.format.specs.Parts.{parts_of};
-ghost use Rattle.verdicts.specs.Writing.{verdict_of};
+ghost use Rattle.verdicts.specs.Writing.{verdict_of, Tells};
 
 use format::layout::{DATA_AT, Frame};
 use requests::forms::Parted;
 use rules::Answer;
-use rules::answers::{answer, enabler_differs};
+use rules::outcomes::Refusal;
 use verdicts::writing::{Verdict, commit, verdict_of};
 
-// A reply is written on 0 and 8 only.
-fn reports(number: u32) -> bool
-    ensures { result ≡ replies number }
+// Answers a refusal. That of the write enabler names the node.
+fn refuse(c: &[u8], refusal: Refusal) -> Answer
+    requires { least ≤ length c.now }
+    ensures { result ≡ answer_of (number_of refusal) (cond (eqb (number_of refusal) 5) (node_of c.now) no_node) 0 }
 {
-    if number == 0 {
-        return true;
+    match refusal {
+        Refusal::WrongEnabler => Answer::wrong_enabler(c),
+        _ => Answer::refused(refusal),
     }
-    number == 8
 }
 
-// Answers a verdict: the reply is written where it is due, and on 0 the container is committed.
+// Answers a verdict: the reply is written where nothing refuses the request, and the container is committed where it is
+// accepted.
 pub fn settle(
     c: &mut [u8],
     frame: Frame,
     q: &[u8],
     t: Parted,
-    verdict: Verdict,
+    verdict: Result<Verdict, Refusal>,
     r: &mut [u8],
 ) -> Answer
     requires { Known c.old frame × (WriteRequest q.now t
-        × (verdict ≡ verdict_of (parts_of c.old) (write_in t q.now) (length r.old))) }
+        × Tells verdict (verdict_of (parts_of c.old) (write_in t q.now) (length r.old))) }
     ensures value { result ≡ answered c.old q.now r.old }
     ensures c_after { c.new ≡ container_after c.old q.now r.old }
     ensures r_after { r.new ≡ reply_after c.old q.now r.old }
 {
-    let number = verdict.number;
-    if number == 5 {
-        return enabler_differs(c);
-    }
-    if !reports(number) {
-        return answer(number, 0);
-    }
+    let verdict = match verdict {
+        Ok(verdict) => verdict,
+        Err(refusal) => return refuse(c, refusal),
+    };
     let to = frame.data_end();
     replies::reply::write_reply(&c[DATA_AT..to], q, t.tests, r);
-    if number == 8 {
-        return answer(8, verdict.reply);
+    match verdict {
+        Verdict::TestFalse(reply) => Answer::test_false(reply),
+        Verdict::Accepted(due) => {
+            commit(c, frame, q, t, due);
+            Answer::done(due.reply)
+        }
     }
-    commit(c, frame, q, t, verdict);
-    answer(0, verdict.reply)
 }
 
 pub fn test_and_write(c: &mut [u8], frame: Frame, q: &[u8], t: Parted, r: &mut [u8]) -> Answer

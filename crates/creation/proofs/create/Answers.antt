@@ -13,7 +13,7 @@ use Rattle.creation.proofs.create.Goals as goal
 pub returns-then-c-lt-LEAST : goal.returns-then-c-lt-LEAST
 returns-then-c-lt-LEAST c =
     let a = c.args in
-    let both = create_length a.c.now a.node.now a.enabler.now _ (too_short _ (omega arith)) c.answer.ensures in
+    let both = create_length a.c.now a.node.now a.enabler.now _ (too_short _ (omega arith)) c.refused.ensures in
     record {
       value = both.0;
       c_after = both.1;
@@ -23,7 +23,7 @@ pub returns-then-c-gt-LIMIT : goal.returns-then-c-gt-LIMIT
 returns-then-c-gt-LIMIT c =
     let a = c.args in
     let both = create_length a.c.now a.node.now a.enabler.now _ (too_long _ (omega arith) (omega arith))
-    c.answer-then-c-gt-LIMIT.ensures in
+    c.refused-then-c-gt-LIMIT.ensures in
     record {
       value = both.0;
       c_after = both.1;
@@ -35,7 +35,7 @@ returns-then-node-ne-NODE_SIZE c =
     length-true _ (omega arith) (omega arith) in
     let a = c.args in
     let both = create_lengths a.c.now a.node.now a.enabler.now _ (allowed)
-    (rw (ne_eqb (length a.node.now) node_size c.if-node-ne-NODE_SIZE.true)) c.answer-then-node-ne-NODE_SIZE.ensures in
+    (rw (ne_eqb (length a.node.now) node_size c.if-node-ne-NODE_SIZE.true)) c.refused-then-node-ne-NODE_SIZE.ensures in
     record {
       value = both.0;
       c_after = both.1;
@@ -51,7 +51,7 @@ returns-then-enabler-ne-SECRET_SIZE c =
       eq-eqb (length a.node.now) node_size c.if-node-ne-NODE_SIZE.false,
       ne_eqb (length a.enabler.now) secret_size
           c.if-enabler-ne-SECRET_SIZE.true,
-    )) c.answer-then-enabler-ne-SECRET_SIZE.ensures in
+    )) c.refused-then-enabler-ne-SECRET_SIZE.ensures in
     record {
       value = both.0;
       c_after = both.1;
@@ -64,7 +64,7 @@ returns-then-has_magic c =
     let a = c.before.args in
     let both = create_magic a.c.now a.node.now a.enabler.now _
     (allowed) (omega arith) (omega arith)
-    (sym c.has_magic.ensures ∙ c.if-has_magic.true) c.answer-then-has_magic.ensures in
+    (sym c.has_magic.ensures ∙ c.if-has_magic.true) c.refused-then-has_magic.ensures in
     record {
       value = both.0;
       c_after = both.1;
@@ -78,7 +78,7 @@ returns c =
     let both = create_done a.c.now a.node.now a.enabler.now _ _
     (allowed) (omega arith)
     (omega arith) (sym c.has_magic.ensures
-    ∙ c.if-has_magic.false) c.answer-2.ensures
+    ∙ c.if-has_magic.false) c.done.ensures
     c.write_fresh.ensures in
     record {
       value = both.0;

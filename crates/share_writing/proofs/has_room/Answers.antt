@@ -1,20 +1,19 @@
 -- What is asked of the space is what the sizes that are left ask of what is left of it.
 use mathlib.Core.Path.{sym, ◌∙◌}
 use Rattle.share_writing.proofs.RoomLaws.{room_start, room_none, room_more, room_short, room_end}
-use native.Mathlib.Omega.{arith}
 use Rattle.share_writing.proofs.has_room.Goals as goal
 
 pub returns-then-space-header : goal.returns-then-space-header
 returns-then-space-header c = sym (room_none _ _ _ c.if-space-header.true)
 
-pub loop-i-init : goal.loop-i-init
-loop-i-init c = (omega arith, room_start _ _ _ c.if-space-header.false)
+pub loop-part-init : goal.loop-part-init
+loop-part-init c = room_start _ _ _ c.if-space-header.false
 
 pub returns-then-left-n : goal.returns-then-left-n
-returns-then-left-n c = sym (c.loop-i.invariant.1 ∙ room_short _ _ _ c.loop-i-test.true c.if-left-n.true)
+returns-then-left-n c = sym (c.loop-part.invariant ∙ room_short _ _ _ c.loop-part-test.true c.if-left-n.true)
 
-pub loop-i-preserved : goal.loop-i-preserved
-loop-i-preserved c = (omega arith, c.loop-i.invariant.1 ∙ room_more _ _ _ c.loop-i-test.true c.if-left-n.false)
+pub loop-part-preserved : goal.loop-part-preserved
+loop-part-preserved c = c.loop-part.invariant ∙ room_more _ _ _ c.loop-part-test.true c.if-left-n.false
 
 pub returns : goal.returns
-returns c = sym (c.loop-i.invariant.1 ∙ room_end _ _ _ c.loop-i-test.false)
+returns c = sym (c.loop-part.invariant ∙ room_end _ _ _ c.loop-part-test.false)

@@ -1,30 +1,43 @@
--- Seven sums, none beyond the last.
+-- Each boundary is the one before and a part's size.
+use mathlib.Core.Path.{refl, ◌∙◌}
+use Prim.Native.Nat.{◌<◌}
 use native.Mathlib.Omega.{arith}
+use lib.ListN.{length, length-set}
 use Rattle.share_format.specs.Bounds.{packed}
-use Rattle.share_writing.proofs.SizeLaws.{sum_seven, packed_seven}
+use Rattle.share_writing.specs.Facts.{sizes_of}
+use Rattle.share_writing.proofs.PartLaws.{count, size_at, sum_upto, placed_last, placed_more, placed_all}
 use Rattle.share_writing.proofs.places.Goals as goal
 
-pub overflow_add-second : goal.overflow_add-second
-overflow_add-second c = omega (arith, sum_seven c.args.sizes c.requires.0)
+pub loop-i-init : goal.loop-i-init
+unfolding packed
+loop-i-init c = (refl, refl)
 
-pub overflow_add-third : goal.overflow_add-third
-overflow_add-third c = omega (arith, sum_seven c.args.sizes c.requires.0)
+pub overflow_add-bounds : goal.overflow_add-bounds
+overflow_add-bounds c =
+    let l = c.loop-i in
+    let ps = c.args.parts.now in
+    let h = c.loop-i-test.true in
+    let k : l.i < length (sizes_of ps) = rw count h in
+    omega (
+      arith,
+      placed_last c.args.header (sizes_of ps) l.bounds l.i k l.invariant.0,
+      size_at ps l.i h,
+      sum_upto (sizes_of ps) l.i k,
+      c.requires.1,
+    )
 
-pub overflow_add-fourth : goal.overflow_add-fourth
-overflow_add-fourth c = omega (arith, sum_seven c.args.sizes c.requires.0)
-
-pub overflow_add-fifth : goal.overflow_add-fifth
-overflow_add-fifth c = omega (arith, sum_seven c.args.sizes c.requires.0)
-
-pub overflow_add-sixth : goal.overflow_add-sixth
-overflow_add-sixth c = omega (arith, sum_seven c.args.sizes c.requires.0)
-
-pub overflow_add-seventh : goal.overflow_add-seventh
-overflow_add-seventh c = omega (arith, sum_seven c.args.sizes c.requires.0)
-
-pub overflow_add-end : goal.overflow_add-end
-overflow_add-end c = omega (arith, sum_seven c.args.sizes c.requires.0)
+pub loop-i-preserved : goal.loop-i-preserved
+loop-i-preserved c =
+    let l = c.loop-i in
+    let ps = c.args.parts.now in
+    let h = c.loop-i-test.true in (
+      placed_more c.args.header (sizes_of ps) l.bounds l.i (rw count h) l.invariant.0 _ (size_at ps l.i h)
+          (omega (arith, h, c.requires.0, l.invariant.1)),
+      length-set _ _ _ ∙ l.invariant.1,
+    )
 
 pub returns : goal.returns
-unfolding packed
-returns c = packed_seven c.args.header c.args.sizes c.requires.0
+returns c =
+    let l = c.loop-i in
+    let ps = c.args.parts.now in
+    placed_all c.args.header (sizes_of ps) l.bounds l.i (omega (arith, count ps, c.loop-i-test.false)) (omega (arith, l.invariant.1, c.requires.0, c.loop-i-test.false)) l.invariant.0

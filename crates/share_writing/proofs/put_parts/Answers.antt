@@ -1,28 +1,41 @@
--- Seven stores, each behind the one before.
-use mathlib.Core.Path.{refl}
+-- Stores, each behind the one before.
+use mathlib.Core.Path.{◌≡◌, refl}
+use mathlib.Core.List.{[]}
 use native.Mathlib.Omega.{arith}
-use Rattle.octets.proofs.MoveLaws.{stored_none, stored_more, stored_at}
-use lib.ListN.{length, get_or}
+use lib.ListN.{length, get_or, length-map}
+use lib.Seq.{take_all}
+use Rattle.std.proofs.lemmas.List.{take_more}
+use Rattle.octets.proofs.MoveLaws.{stored_none, stored_more}
+use Rattle.share_writing.specs.Facts.{strings}
+use Rattle.share_writing.proofs.PartLaws.{blank, string_at, join_upto, stored-length}
 use Rattle.share_writing.proofs.put_parts.Goals as goal
 
-pub copy_part-requires-7 : goal.copy_part-requires-7
-copy_part-requires-7 c = omega (arith, c.requires)
+pub loop-part-init : goal.loop-part-init
+loop-part-init c = stored_none c.args.from c.args.d.now (omega (arith, c.requires))
+
+pub copy_part-requires : goal.copy_part-requires
+copy_part-requires c =
+    let l = c.loop-part in
+    let ps = c.args.parts.now in
+    let h = c.loop-part-test.true in
+    let s = l.invariant in
+    let u = join_upto (strings ps) l.part-index (rw length-map h) in
+    let n = rw (string_at ps l.part-index h) at u in
+    let k = stored-length _ _ _ _ _ s (omega (arith, s.ends, n, c.requires)) in
+    omega (arith, k, n, s.ends, c.requires)
+
+pub loop-part-preserved : goal.loop-part-preserved
+loop-part-preserved c =
+    let l = c.loop-part in
+    let ps = c.args.parts.now in
+    let h = c.loop-part-test.true in
+    rw (take_more (strings ps) l.part-index [] (rw length-map h), string_at ps l.part-index h)
+    (stored_more _ _ (length (get_or ps l.part-index blank).now) _ _ _ _ _ l.invariant c.copy_part.ensures refl)
 
 pub returns : goal.returns
 returns c =
-    let x = c.args in
-    let p = c.requires.0 in
-    let s0 = stored_none (get_or x.bounds 0 0) x.d.now (omega arith) in
-    let s1 = stored_more _ _ (length x.first.now) _ _ _ _ _ s0 c.copy_part.ensures refl in
-    let e1 = stored_at _ _ (get_or x.bounds 1 0) _ _ _ s1 (omega (arith, p.second)) in
-    let s2 = stored_more _ _ (length x.second.now) _ _ _ _ _ e1 c.copy_part-2.ensures refl in
-    let e2 = stored_at _ _ (get_or x.bounds 2 0) _ _ _ s2 (omega (arith, p.third)) in
-    let s3 = stored_more _ _ (length x.third.now) _ _ _ _ _ e2 c.copy_part-3.ensures refl in
-    let e3 = stored_at _ _ (get_or x.bounds 3 0) _ _ _ s3 (omega (arith, p.fourth)) in
-    let s4 = stored_more _ _ (length x.fourth.now) _ _ _ _ _ e3 c.copy_part-4.ensures refl in
-    let e4 = stored_at _ _ (get_or x.bounds 4 0) _ _ _ s4 (omega (arith, p.fifth)) in
-    let s5 = stored_more _ _ (length x.fifth.now) _ _ _ _ _ e4 c.copy_part-5.ensures refl in
-    let e5 = stored_at _ _ (get_or x.bounds 5 0) _ _ _ s5 (omega (arith, p.sixth)) in
-    let s6 = stored_more _ _ (length x.sixth.now) _ _ _ _ _ e5 c.copy_part-6.ensures refl in
-    let e6 = stored_at _ _ (get_or x.bounds 6 0) _ _ _ s6 (omega (arith, p.seventh)) in
-    (stored_more _ _ (length x.seventh.now) _ _ _ _ _ e6 c.copy_part-7.ensures refl).is
+    let l = c.loop-part in
+    let ps = c.args.parts.now in
+    let k : length (strings ps) ≡ length ps = length-map _ _ in
+    let t = take_all l.part-index (strings ps) (omega (arith, k, c.loop-part-test.false)) in
+    (rw t at l.invariant).is

@@ -1,16 +1,17 @@
--- A number other than 0 leaves the space; on 0 nothing refuses.
-use mathlib.Core.Path.{sym, ◌∙◌}
+-- A refusal leaves the space; else nothing refuses.
+use mathlib.Core.Path.{refl, sym, ◌∙◌}
+use native.Mathlib.Omega.{arith}
 use Rattle.share_format.specs.Parts.{Share, part_list, places_of}
 use Rattle.share_rules.specs.Writing.{mdmf_with, write_rows, write_outcome}
 use Rattle.share_rules.proofs.WritingLaws.{places_end, answer-refused, answer-done, encoded}
-use Rattle.share_writing.proofs.SizeLaws.{places_seven}
-use Rattle.share_writing.proofs.VerdictLaws.{layable}
+use Rattle.share_writing.proofs.VerdictLaws.{layable, refusal_number-above}
 use Rattle.share_writing.proofs.write_mdmf.Goals as goal
 
-pub returns-then-number-ne0 : goal.returns-then-number-ne0
+pub returns-in-Err : goal.returns-in-Err
 unfolding part_list write_outcome write_rows
-returns-then-number-ne0 c =
-    let both = answer-refused _ _ _ c.verdict_of-verdict.ensures.number c.if-number-ne0.true in
+returns-in-Err c =
+    let n = c.number.ensures in
+    let both = answer-refused _ _ _ (n ∙ c.in-Err.ensures.number) (λ z. omega (arith, n, z, refusal_number-above c.in-Err.refusal)) in
     record {
       answer = both.0;
       space = both.1;
@@ -24,23 +25,20 @@ lay_out-requires c =
     mdmf_with a.sequence a.root.now a.required a.total a.segment_size a.data_length
     a.private_key.now a.chain.now a.signature.now a.key.now a.spare.now a.share_data.now
     a.tree.now in
-    let v = c.verdict_of-verdict.ensures in
-    let b = v.bounds c.if-number-ne0.false in
-    let l = layable given _ _ (sym v.number ∙ c.if-number-ne0.false) b in
-    (l.0, rw b (places_seven _ _ _ _ _ _ _ _), l.1)
+    let v = c.in-Ok.ensures in
+    layable given _ _ (sym v.number) v.bounds
 
-pub returns : goal.returns
+pub returns-in-Ok : goal.returns-in-Ok
 unfolding part_list places_of write_outcome write_rows
-returns c =
+returns-in-Ok c =
     let given : Share =
     let a = c.args in
     mdmf_with a.sequence a.root.now a.required a.total a.segment_size a.data_length
     a.private_key.now a.chain.now a.signature.now a.key.now a.spare.now a.share_data.now
     a.tree.now in
-    let v = c.verdict_of-verdict.ensures in
-    let z = c.if-number-ne0.false in
-    let both = answer-done given _ _ _ (sym v.number ∙ z) (rw (v.bounds z) (places_end given))
-    (c.lay_out.ensures ∙ encoded given _ _ _ (v.segment z) (v.bounds z)) in
+    let v = c.in-Ok.ensures in
+    let both = answer-done given _ _ _ (sym v.number) (rw v.bounds (places_end given))
+    (rw v.numbers at c.lay_out.ensures ∙ encoded given _ _ _ refl v.bounds) in
     record {
       answer = both.0;
       space = both.1;

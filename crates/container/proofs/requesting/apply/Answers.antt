@@ -1,32 +1,10 @@
 -- The container first, then the request.
 use mathlib.Core.Path.{subst, ◌∙◌}
 use Rattle.format.specs.Judging.{Judges}
-use Rattle.format.proofs.JudgingLaws.{judged_formed, judged-malformed, judged-length}
-use Rattle.rules.proofs.RefusalLaws.{bad_length, malformed}
+use Rattle.rules.proofs.RefusalLaws.{flawed}
 use Rattle.container.proofs.requesting.apply.Goals as goal
 
-pub apply_formed-requires : goal.apply_formed-requires
-apply_formed-requires c =
-    judged_formed _ _ (subst (Judges _) c.in-Formed.is
-    c.judge.ensures)
-
-pub returns-in-BadLength : goal.returns-in-BadLength
-returns-in-BadLength c =
-    let j = subst (Judges _) c.in-BadLength.is c.judge.ensures in
-    let r = bad_length c.args.c.now c.args.q.now c.args.r.now (judged-length _ j) in
-    record {
-      value = c.answer.ensures ∙ r.answer;
-      c_after = r.container;
-      r_after = r.reply;
-    }
-
-pub returns-in-Malformed : goal.returns-in-Malformed
-returns-in-Malformed c =
-    let m = judged-malformed _ (subst (Judges _) c.in-Malformed.is
-    c.judge.ensures) in
-    let r = malformed c.args.c.now c.args.q.now c.args.r.now m.0 m.1 in
-    record {
-      value = c.answer-in-Malformed.ensures ∙ r.answer;
-      c_after = r.container;
-      r_after = r.reply;
-    }
+pub returns-in-Err : goal.returns-in-Err
+returns-in-Err c =
+    let r = flawed _ c.args.c.now c.args.q.now c.args.r.now (subst (Judges _) c.in-Err.is c.judge.ensures) in
+    record { value = c.refused.ensures ∙ rw c.into.ensures r.answer; c_after = r.container; r_after = r.reply }

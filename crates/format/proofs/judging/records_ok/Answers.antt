@@ -1,24 +1,19 @@
--- What the records from the first on say is what the records that are left say; the measure is how many are left.
-use mathlib.Core.Path.{refl, sym, ◌∙◌}
+-- Each number below n is the place of a record, and all of them pass if all records do.
+use mathlib.Core.Path.{refl, ◌∙◌}
 use native.Mathlib.Omega.{arith}
-use Rattle.format.proofs.JudgingLaws.{records_more, records_stop, records-end}
+use Prim.Native.Nat.{ℕ, ◌+◌, ◌*◌}
+use lib.ListN.{take, drop}
+use Rattle.std.proofs.Common.{rules, tests}
+use Rattle.std.proofs.lemmas.Iterator.{YieldsList-from_range}
+use Rattle.std.proofs.lemmas.Iterator.Search.{all_from_yields_List}
+use Rattle.format.specs.Layout.{record_size}
+use Rattle.format.specs.Container.{record_ok}
+use Rattle.format.proofs.JudgingLaws.{records_each}
 use Rattle.format.proofs.judging.records_ok.Goals as goal
 
-pub loop-left-init : goal.loop-left-init
-loop-left-init c = (omega arith, refl)
-
-pub returns-then-not-record_ok : goal.returns-then-not-record_ok
-returns-then-not-record_ok c =
-    sym (c.loop-left.invariant.1 ∙ records_stop _ _ _ c.loop-left-test.true (sym c.record_ok.ensures
-    ∙ c.if-not-record_ok.true))
-
-pub loop-left-preserved : goal.loop-left-preserved
-loop-left-preserved c = (
-  omega arith,
-  c.loop-left.invariant.1
-      ∙ records_more _ _ _ c.loop-left-test.true (sym c.record_ok.ensures
-      ∙ c.if-not-record_ok.false),
-)
-
 pub returns : goal.returns
-returns c = sym (c.loop-left.invariant.1 ∙ records-end _ _ _ c.loop-left-test.false)
+returns c =
+    let a = c.args in
+    all_from_yields_List (λ (i : ℕ). record_ok (take record_size (drop (a.from + record_size * i) a.c.now))) _ _ _
+    c.all.ensures.ran (YieldsList-from_range 0 a.n a.n refl (omega arith)) (λ x b q k. search (rules, tests))
+    ∙ records_each a.n a.from a.c.now

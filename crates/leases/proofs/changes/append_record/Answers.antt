@@ -3,6 +3,7 @@ use mathlib.Core.Path.{ap, ◌∙◌}
 use mathlib.Core.List.{List}
 use Prim.Native.Nat.{ℕ, ◌+◌}
 use native.Mathlib.Omega.{arith}
+use Rattle.std.proofs.Common.{rules}
 use Rattle.octets.specs.Numbers.{digits}
 use Rattle.octets.specs.Moves.{put}
 use Rattle.octets.specs.Facts.{Octets}
@@ -38,7 +39,7 @@ put_u32-requires c =
 pub returns : goal.returns
 returns c =
     let a = c.args in
-    let o : Octets a.c.now = λ j. omega (arith, c.slice_known-1.given j) in
+    let o : Octets a.c.now = λ j. search rules in
     let n : List ℕ = digits count_size (a.frame.extras + 1) in
     let e = c.copy_part.ensures ∙ ap (λ (i : ℕ). put i a.lease.now a.c.now) c.used.ensures in
     c.put_u32.ensures ∙ ap (put a.frame.offset n) e

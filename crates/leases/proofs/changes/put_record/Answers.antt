@@ -2,6 +2,7 @@
 use mathlib.Core.Path.{ap, ◌∙◌}
 use Prim.Native.Nat.{ℕ}
 use native.Mathlib.Omega.{arith}
+use Rattle.std.proofs.Common.{rules}
 use Rattle.octets.specs.Moves.{put}
 use Rattle.octets.specs.Facts.{Octets}
 use Rattle.leases.proofs.PlaceLaws.{known_bounds, place_inside}
@@ -17,6 +18,6 @@ copy_part-requires c = omega (arith, c.place_at-p.ensures, place_inside _ _ c.re
 pub returns : goal.returns
 returns c =
     let a = c.args in
-    let o : Octets a.c.now = λ j. omega (arith, c.slice_known-1.given j) in
+    let o : Octets a.c.now = λ j. search rules in
     c.copy_part.ensures ∙ ap (λ (m : ℕ). put m a.lease.now a.c.now) c.place_at-p.ensures
     ∙ put_place a.c.now a.frame c.requires.0 o a.i a.lease.now c.requires.1 c.requires.2

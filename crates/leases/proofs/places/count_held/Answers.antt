@@ -1,25 +1,17 @@
--- The invariant: the leases counted and those in the places left are all. Assumes nothing.
-use mathlib.Core.Path.{sym, ◌∙◌}
-use mathlib.Core.Bool.{true, false}
-use native.Mathlib.Nat.{zero-add}
+-- The chunks are the records. Assumes nothing.
+use mathlib.Core.Path.{◌∙◌}
 use native.Mathlib.Omega.{arith}
-use Rattle.leases.proofs.PlaceLaws.{present_more, present-none}
+use Rattle.std.proofs.Common.{rules}
+use Rattle.std.proofs.lemmas.Iterator.Consumers.{count_from_yields_List, YieldsList-from_filter, YieldsList-at}
+use Rattle.format.specs.Container.{held}
+use Rattle.leases.proofs.ChunkLaws.{held-front, present-filter}
+use Rattle.format.proofs.ChunkLaws.{YieldsList-from_records}
 use Rattle.leases.proofs.places.count_held.Goals as goal
-use Rattle.leases.proofs.places.count_held.Goals.{then-is_held, else-is_held}
-
-pub loop-left-init : goal.loop-left-init
-loop-left-init c = (omega arith, omega arith, omega arith, sym (zero-add _))
-
-pub loop-left-preserved : goal.loop-left-preserved
-loop-left-preserved c =
-    let more = present_more c.loop-left.left c.loop-left.at c.args.c.now in
-    let h = sym c.is_held.ensures in
-    elim c.if-is_held.branch [
-      | then-is_held w ↦ let m = more true (omega arith) (h ∙ w.if-is_held.true) in (omega arith, omega arith, omega arith, omega arith)
-      | else-is_held w ↦ let m = more false (omega arith) (h ∙ w.if-is_held.false) in (omega arith, omega arith, omega arith, omega arith)
-    ]
 
 pub returns : goal.returns
 returns c =
     let a = c.args in
-    omega (arith, present-none c.loop-left.left c.loop-left.at a.c.now (omega arith))
+    count_from_yields_List c.filter.result c.count.result c.count.ensures.ran
+    (YieldsList-from_filter _ held (YieldsList-at c.filter.ensures.source (YieldsList-from_records a.n _ a.from a.c.now
+    (omega arith) (omega arith) c.chunks_exact.ensures.rest c.chunks_exact.ensures.size)) c.filter.ensures.closure
+    (λ x b q k. search (rules, held-front))) ∙ present-filter _

@@ -22,7 +22,7 @@ returns-then-not-list_ok c =
     sym (c.list_ok.ensures ∙ ap (list_ok c.args.l.now) d) in
     let a = c.args in
     let z = bad_list_lem a.c.now a.l.now (read_of a.q.now) a.r.now c.requires.formed
-    (judged ∙ c.if-not-list_ok.true) c.answer.ensures in
+    (judged ∙ c.if-not-list_ok.true) c.refused.ensures in
     record {
       value = z.0;
       r_after = z.1.1.1;

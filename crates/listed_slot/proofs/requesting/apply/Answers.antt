@@ -1,39 +1,19 @@
 -- The container first, then the list and the request.
-use mathlib.Core.Path.{subst}
-use native.Mathlib.Omega.{arith}
+use mathlib.Core.Path.{ap, subst, ◌∙◌}
+use Rattle.rules.specs.Outcomes.{answer_of, no_node}
+use Rattle.rules.specs.Refusals.{number_of}
+use Rattle.rules.specs.declared.outcomes.Refusal.{Refusal}
 use Rattle.format.specs.Judging.{Judges}
-use Rattle.format.proofs.JudgingLaws.{judged_formed, judged-malformed, judged-length}
-use Rattle.rules.proofs.RefusalLaws.{bad_length, malformed}
-use Rattle.listed_slot.proofs.ServingLaws.{malformed-length, malformed_served}
+use Rattle.format.proofs.JudgingLaws.{judged_formed}
+use Rattle.listed_slot.proofs.ServingLaws.{flawed_served}
 use Rattle.listed_slot.proofs.requesting.apply.Goals as goal
 
 pub apply_judged-requires : goal.apply_judged-requires
-apply_judged-requires c = judged_formed _ _ (subst (Judges _) c.in-Formed.is c.judge.ensures)
+apply_judged-requires c = judged_formed _ _ (subst (Judges _) c.in-Ok.is c.judge.ensures)
 
-pub returns-in-BadLength : goal.returns-in-BadLength
-returns-in-BadLength c =
+pub returns-in-Err : goal.returns-in-Err
+returns-in-Err c =
     let a = c.args in
-    let j = c.judge.ensures in
-    let l = judged-length _ (subst (Judges _) c.in-BadLength.is j) in
-    let both = malformed_served a.c.now a.l.now a.q.now a.r.now 1 (omega arith) (malformed-length _ l)
-    (bad_length a.c.now a.q.now a.r.now l) c.answer.ensures in
-    record {
-      value = both.0;
-      c_after = both.1.0;
-      l_after = both.1.1.0;
-      r_after = both.1.1.1;
-    }
-
-pub returns-in-Malformed : goal.returns-in-Malformed
-returns-in-Malformed c =
-    let a = c.args in
-    let j = c.judge.ensures in
-    let m = judged-malformed _ (subst (Judges _) c.in-Malformed.is j) in
-    let both = malformed_served a.c.now a.l.now a.q.now a.r.now 2 (omega arith) m.1
-    (malformed a.c.now a.q.now a.r.now m.0 m.1) c.answer-in-Malformed.ensures in
-    record {
-      value = both.0;
-      c_after = both.1.0;
-      l_after = both.1.1.0;
-      r_after = both.1.1.1;
-    }
+    let j = subst (Judges _) c.in-Err.is c.judge.ensures in
+    let both = flawed_served a.c.now a.l.now a.q.now a.r.now _ j (c.refused.ensures ∙ ap (λ (e : Refusal). answer_of (number_of e) no_node 0) c.from.ensures) in
+    record { value = both.0; c_after = both.1.0; l_after = both.1.1.0; r_after = both.1.1.1 }

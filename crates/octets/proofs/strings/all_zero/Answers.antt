@@ -1,37 +1,26 @@
--- The blocks passed over are zero, so the whole is zero where the rest is.
-use native.Mathlib.Omega.{arith}
-use mathlib.Core.Path.{◌≡◌, refl, sym, ap, ◌∙◌}
-use mathlib.Core.Bool.{Bool, true, false, cond}
-use Prim.Native.Nat.{◌-◌, ◌+◌}
-use lib.ListN.{drop}
+-- The whole is zero where each block and the rest are.
+use Rattle.std.proofs.Common.{rules, tests, ◌≡◌, ◌∙◌, ap, sym, true, false, length, ◌/◌}
+use Rattle.std.specs.List.{list_all}
+use Rattle.std.proofs.lemmas.Iterator.{YieldsList-from_slice}
+use Rattle.std.proofs.lemmas.Iterator.Search.{all_from_yields_List}
 use Rattle.octets.specs.Strings.{all_zero}
-use Rattle.octets.proofs.StringLaws.{zero_block, tail_is}
+use Rattle.octets.proofs.StringLaws.{zero_blocks}
 use Rattle.octets.proofs.strings.all_zero.Goals as goal
 
-pub loop-i-init : goal.loop-i-init
-loop-i-init c = (refl, omega arith, refl)
-
-pub loop-i-preserved : goal.loop-i-preserved
-loop-i-preserved c =
-    let by-block : (t : Bool) → c.zero_part.result ≡ t
-    → let s = c.args.s.now in
-    all_zero s ≡ cond t (all_zero (drop (c.loop-i.i + 64) s)) false =
-    λ t e. let i = c.loop-i.i in
-    let k : i + 64 - i ≡ 64 = omega arith in
-    c.loop-i.invariant.2 ∙ zero_block c.args.s.now i 64 ∙ sym (rw (← e, c.zero_part.ensures, k)) in
-    (refl, omega arith, by-block true c.if-zero_part.true)
-
-pub returns-else-zero_part : goal.returns-else-zero_part
-returns-else-zero_part c =
-    let by-block : (t : Bool) → c.zero_part.result ≡ t
-    → let s = c.args.s.now in
-    all_zero s ≡ cond t (all_zero (drop (c.loop-i.i + 64) s)) false =
-    λ t e. let i = c.loop-i.i in
-    let k : i + 64 - i ≡ 64 = omega arith in
-    c.loop-i.invariant.2 ∙ zero_block c.args.s.now i 64 ∙ sym (rw (← e, c.zero_part.ensures, k)) in
-    sym (by-block false c.if-zero_part.false)
-
-pub returns : goal.returns
-returns c =
+pub returns-then-all : goal.returns-then-all
+returns-then-all c =
     let s = c.args.s.now in
-    c.zero_part-2.ensures ∙ ap all_zero (tail_is s c.loop-i.i) ∙ sym c.loop-i.invariant.2
+    let r : c.all.result ≡ list_all all_zero c.as_chunks.result.0.now =
+    all_from_yields_List all_zero _ _ c.all.result c.all.ensures.ran (YieldsList-from_slice c.as_chunks.result.0.now (cc))
+    (λ x b q k. search (rules, tests)) in
+    c.zero_part.ensures ∙ ap all_zero c.as_chunks.ensures.back
+    ∙ zero_blocks 64 (length s / 64) s true (sym c.if-all.true ∙ r ∙ ap (list_all all_zero) c.as_chunks.ensures.front)
+
+pub returns-else-all : goal.returns-else-all
+returns-else-all c =
+    let s = c.args.s.now in
+    let r : c.all.result ≡ list_all all_zero c.as_chunks.result.0.now =
+    all_from_yields_List all_zero _ _ c.all.result c.all.ensures.ran (YieldsList-from_slice c.as_chunks.result.0.now (cc))
+    (λ x b q k. search (rules, tests)) in
+    c.if-all.false
+    ∙ zero_blocks 64 (length s / 64) s false (sym c.if-all.false ∙ r ∙ ap (list_all all_zero) c.as_chunks.ensures.front)

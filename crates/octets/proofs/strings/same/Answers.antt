@@ -1,21 +1,17 @@
--- The strings are equal where the OR of the XORs so far is 0 and the rests are equal.
-use native.Mathlib.Omega.{arith}
-use mathlib.Core.Path.{refl, sym, ◌∙◌}
-use Rattle.octets.proofs.StringLaws.{same_more, same_end}
+-- The OR of the XORs of all pairs of bytes is 0 where each pair is equal.
+use Rattle.std.proofs.Common.{rules, tests, ◌≡◌, ◌∙◌, ap, ℕ, nat_eq}
+use Rattle.std.specs.List.{fold, zip}
+use Rattle.std.proofs.lemmas.Iterator.{YieldsList-from_slice, YieldsList-from_zip}
+use Rattle.std.proofs.lemmas.Iterator.Consumers.{fold_from_yields_List}
+use Rattle.octets.proofs.StringLaws.{or_xor, fold_or_xor}
 use Rattle.octets.proofs.strings.same.Goals as goal
-
-pub loop-i-init : goal.loop-i-init
-loop-i-init c = (omega arith, refl)
-
-pub loop-i-preserved : goal.loop-i-preserved
-loop-i-preserved c =
-    let a = c.args in (
-      omega arith,
-      c.loop-i.invariant.1 ∙ same_more a.a.now a.b.now c.loop-i.i c.loop-i.acc (omega arith)
-          (omega arith),
-    )
 
 pub returns : goal.returns
 returns c =
-    let a = c.args in
-    sym (c.loop-i.invariant.1 ∙ same_end a.a.now a.b.now c.loop-i.i c.loop-i.acc (omega arith) (omega arith))
+    let a = c.args.a.now in
+    let b = c.args.b.now in
+    let r : c.fold.result ≡ fold or_xor 0 (zip a b) =
+    fold_from_yields_List _ or_xor 0 c.fold.result c.fold.ensures.ran
+    (YieldsList-from_zip (YieldsList-from_slice a (cc)) (YieldsList-from_slice b (cc)))
+    (λ n p m q k. search (rules, tests)) in
+    ap (λ (n : ℕ). nat_eq n 0) r ∙ fold_or_xor a b 0 c.requires

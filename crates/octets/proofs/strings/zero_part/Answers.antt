@@ -1,14 +1,11 @@
--- The string is zero where the OR so far is 0 and the rest is zero.
-use native.Mathlib.Omega.{arith}
-use mathlib.Core.Path.{refl, sym, ◌∙◌}
-use Rattle.octets.proofs.StringLaws.{zero_more, zero-end}
+-- The OR of all bytes is 0 where each is.
+use Rattle.std.proofs.Common.{rules, ◌≡◌, ◌∙◌, ap, ℕ, nat_eq, bit_or}
+use Rattle.std.specs.List.{fold}
+use Rattle.std.proofs.iter.runs.Made.{chains}
+use Rattle.octets.proofs.StringLaws.{fold_or}
 use Rattle.octets.proofs.strings.zero_part.Goals as goal
 
-pub loop-i-init : goal.loop-i-init
-loop-i-init c = (omega arith, refl)
-
-pub loop-i-preserved : goal.loop-i-preserved
-loop-i-preserved c = (omega arith, c.loop-i.invariant.1 ∙ zero_more c.args.s.now c.loop-i.i c.loop-i.acc (omega arith))
-
 pub returns : goal.returns
-returns c = sym (c.loop-i.invariant.1 ∙ zero-end c.args.s.now c.loop-i.i c.loop-i.acc (omega arith))
+returns c =
+    let r : c.fold.result ≡ fold bit_or 0 c.args.s.now = search (rules, chains) in
+    ap (λ (n : ℕ). nat_eq n 0) r ∙ fold_or c.args.s.now 0

@@ -20,4 +20,4 @@ extras_at-requires g c =
 
 pub leases-requires-2 : goal.leases-requires-2
 leases-requires-2 g c =
-    omega (arith, (known_room c.requires).1, c.lesser-shown.ensures.0, c.extras_at.ensures)
+    omega (arith, (known_room c.requires).1, c.min-shown.ensures, c.extras_at.ensures)

@@ -6,11 +6,7 @@ use Rattle.replay.proofs.showing.pieces.Given as goal
 
 abbrev pub invariant-loop-i : goal.invariant-loop-i
 invariant-loop-i g l = record {
-  turns : l.i ≤ l.n;
-  table : length_size * l.n ≤ length l.r;
-  position : l.at ≤ length l.r;
-  entries : l.cursor.at + l.t.stride * (l.n - l.i) ≤ length l.q;
+  lengths : length_size * l.count ≤ length l.reply;
+  position : l.at ≤ length l.reply;
+  entries : l.cursor.at + l.table.stride * (l.count - l.i) ≤ length l.request;
 }
-
-abbrev pub decreases-loop-i : goal.decreases-loop-i
-decreases-loop-i g l = l.n - l.i

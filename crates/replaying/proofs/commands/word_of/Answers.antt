@@ -1,32 +1,10 @@
--- What each call answers, the last call first.
-use Rattle.replaying.specs.Commands.{word_of}
+-- Bytes that are no text are no word.
+use Rattle.std.proofs.Common.{sym, ◌∙◌}
+use Rattle.replaying.proofs.WordLaws.{unnamed}
 use Rattle.replaying.proofs.commands.word_of.Goals as goal
 
-pub returns : goal.returns
-unfolding word_of
-returns c =
-    rw (
-      c.pick-word-11.ensures,
-      c.is-11.ensures,
-      c.pick-word-10.ensures,
-      c.is-10.ensures,
-      c.pick-word-9.ensures,
-      c.is-9.ensures,
-      c.pick-word-8.ensures,
-      c.is-8.ensures,
-      c.pick-word-7.ensures,
-      c.is-7.ensures,
-      c.pick-word-6.ensures,
-      c.is-6.ensures,
-    ) (rw (
-      c.pick-word-5.ensures,
-      c.is-5.ensures,
-      c.pick-word-4.ensures,
-      c.is-4.ensures,
-      c.pick-word-3.ensures,
-      c.is-3.ensures,
-      c.pick-word-2.ensures,
-      c.is-2.ensures,
-      c.pick-word.ensures,
-      c.is.ensures,
-    ))
+pub returns-in_err-ok : goal.returns-in_err-ok
+returns-in_err-ok c =
+    rw c.from_residual.ensures
+    (sym (unnamed c.args.w.now c.from_utf8.result c.from_utf8.ensures.cases
+    (sym c.ok.ensures.value ∙ c.in_err-ok.was)))

@@ -1,40 +1,30 @@
--- The digits are those of the run; their value is what was read, or both are above the bound.
-use native.Mathlib.Omega.{arith}
-use mathlib.Core.Path.{sym}
-use Prim.Native.Nat.{◌-◌, ◌<◌}
-use lib.ListN.{length, take, drop, length-take, length-drop}
+-- The digits are those of the run.
+use Rattle.std.proofs.Common.{sym, ◌∙◌, ◌-◌, ◌<◌, length, take, drop, length-take, length-drop, arith}
 use Rattle.replaying.specs.Numerals.{decimal_at, decimal_to}
 use Rattle.replaying.proofs.TextLaws.{decimal_none, decimal_large, decimal_value}
 use Rattle.replaying.proofs.numerals.decimal_at.Goals as goal
+use Rattle.replaying.proofs.numerals.decimal_at.Goals.{After-value}
 
-pub returns-then-e-at : goal.returns-then-e-at
-unfolding decimal_at decimal_to
-returns-then-e-at c = (
-  rw (← c.run_end-e.ensures.0) (sym (decimal_none _ _ _ (simp (length-take, length-drop) (omega arith)))),
-  tt,
-)
+-- There is a digit.
+some : (c : After-value) → 0 < length (take (c.run_end-end.result - c.args.at) (drop c.args.at c.args.s.now))
+some c = simp (length-take, length-drop) (omega arith)
 
-pub returns-then-most-v : goal.returns-then-most-v
+pub returns-then-end-at-clause-answer : goal.returns-then-end-at-clause-answer
 unfolding decimal_at decimal_to
-returns-then-most-v c =
-    let some : let a = c.args in
-    let e = c.run_end-e.result in
-    0 < length (take (e - a.at) (drop a.at a.s.now)) =
-    simp (length-take, length-drop) (omega arith) in (
-      rw (← c.run_end-e.ensures.0)
-          (sym (decimal_large _ _ _ (some) (c.value-v.ensures.1 c.if-most-v.true))),
-      tt,
-    )
+returns-then-end-at-clause-answer c =
+    rw (← c.run_end-end.ensures.end)
+    (sym (decimal_none _ _ _ (simp (length-take, length-drop) (omega arith))))
 
-pub returns : goal.returns
+pub returns-in-Some-clause-answer : goal.returns-in-Some-clause-answer
 unfolding decimal_at decimal_to
-returns c =
-    let some : let a = c.args in
-    let e = c.run_end-e.result in
-    0 < length (take (e - a.at) (drop a.at a.s.now)) =
-    simp (length-take, length-drop) (omega arith) in (
-      rw (← c.run_end-e.ensures.0)
-          (sym (decimal_value _ _ _ (some) _ (c.value-v.ensures.0 c.if-most-v.false)
-          c.if-most-v.false)),
-      omega arith,
-    )
+returns-in-Some-clause-answer c =
+    rw (← c.run_end-end.ensures.end)
+    (sym (decimal_value _ _ _ (some (goal.at.returns-in-Some-clause-answer c).After-value) c.in-Some.value
+    (sym c.value.ensures.answer ∙ c.in-Some.is)))
+
+pub returns-in-None-clause-answer : goal.returns-in-None-clause-answer
+unfolding decimal_at decimal_to
+returns-in-None-clause-answer c =
+    rw (← c.run_end-end.ensures.end)
+    (sym (decimal_large _ _ _ (some (goal.at.returns-in-None-clause-answer c).After-value)
+    (sym c.value.ensures.answer ∙ c.in-None.is)))

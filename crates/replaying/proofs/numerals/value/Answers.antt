@@ -1,47 +1,35 @@
 -- The value of all digits is that of the digits left, behind those passed over; it only grows.
-use mathlib.Core.Path.{◌≡◌, refl, sym, ◌∙◌, ap}
-use Prim.Native.Nat.{ℕ, ◌+◌, ◌*◌}
-use native.Mathlib.Omega.{arith}
-use lib.ListN.{drop}
+use Rattle.std.proofs.Common.{◌≡◌, refl, sym, ◌∙◌, ap, ℕ, ◌+◌, ◌*◌, arith, drop}
 use Rattle.replaying.specs.Numerals.{value_of, value_after}
-use Rattle.replaying.proofs.TextLaws.{value_more, value_end, value_grows}
+use Rattle.replaying.proofs.TextLaws.{value_more, value_end, value_grows, within_value, within_none}
 use Rattle.replaying.proofs.numerals.value.Goals as goal
+use Rattle.replaying.proofs.numerals.value.Goals.{After-from}
 
-pub loop-i-init : goal.loop-i-init
+-- The value with one digit more.
+valued : (c : After-from) → value_of c.args.digits.now
+    ≡ value_after (c.loop-digit.value * 10 + c.from.result) (drop (c.loop-digit.digit-index + 1) c.args.digits.now)
+valued c =
+    c.loop-digit.invariant.value ∙ value_more _ _ _ c.loop-digit-test.true
+    ∙ ap (λ (x : ℕ). value_after (c.loop-digit.value * 10 + x) (drop (c.loop-digit.digit-index + 1) c.args.digits.now))
+    (sym (c.from.ensures ∙ c.saturating_sub.ensures))
+
+pub loop-digit-init : goal.loop-digit-init
 unfolding value_of
-loop-i-init c = (omega arith, omega arith, refl)
+loop-digit-init c = record { bound = omega arith; value = refl }
 
-pub overflow_add-acc : goal.overflow_add-acc
-overflow_add-acc c = omega (arith, c.shared_slice_known-in-loop-i-1.given c.loop-i.i)
+pub loop-digit-preserved : goal.loop-digit-preserved
+loop-digit-preserved c = record { bound = omega arith; value = valued (goal.at.loop-digit-preserved c).After-from }
 
-pub returns-then-most-acc : goal.returns-then-most-acc
-returns-then-most-acc c =
-    let valued : let d = c.args.d.now in
-    value_of d ≡ value_after (c.loop-i.acc * 10 + c.digit.result) (drop (c.loop-i.i + 1) d) =
-    let d = c.args.d.now in
-    c.loop-i.invariant.2 ∙ value_more d c.loop-i.i c.loop-i.acc c.loop-i-test.true
-    ∙ ap (λ (x : ℕ). value_after (c.loop-i.acc * 10 + x) (drop (c.loop-i.i + 1) d)) (sym c.digit.ensures) in
-    let v = valued in (
-      λ h. absurd (omega arith),
-      λ h. rw v
-          (omega (
-            arith,
-            value_grows (c.loop-i.acc * 10 + c.digit.result)
-                (drop (c.loop-i.i + 1)
-                c.args.d.now),
-          )),
-    )
+pub returns-then-value-from-clause-answer : goal.returns-then-value-from-clause-answer
+returns-then-value-from-clause-answer c =
+    within_none c.args.digits.now c.args.most (rw (valued (goal.at.returns-then-value-from-clause-answer c).After-from)
+    (omega (
+      arith,
+      value_grows (c.loop-digit.value * 10 + c.from.result)
+          (drop (c.loop-digit.digit-index + 1) c.args.digits.now),
+    )))
 
-pub loop-i-preserved : goal.loop-i-preserved
-loop-i-preserved c =
-    let valued : let d = c.args.d.now in
-    value_of d ≡ value_after (c.loop-i.acc * 10 + c.digit.result) (drop (c.loop-i.i + 1) d) =
-    let d = c.args.d.now in
-    c.loop-i.invariant.2 ∙ value_more d c.loop-i.i c.loop-i.acc c.loop-i-test.true
-    ∙ ap (λ (x : ℕ). value_after (c.loop-i.acc * 10 + x) (drop (c.loop-i.i + 1) d)) (sym c.digit.ensures) in
-    (omega arith, omega arith, valued)
-
-pub returns : goal.returns
-returns c =
-    let v = c.loop-i.invariant.2 ∙ value_end _ _ _ c.loop-i-test.false in
-    (λ h. sym v, λ h. absurd (omega arith))
+pub returns-clause-answer : goal.returns-clause-answer
+returns-clause-answer c =
+    within_value c.args.digits.now c.args.most c.loop-digit.value
+    (sym (c.loop-digit.invariant.value ∙ value_end _ _ _ c.loop-digit-test.false)) c.loop-digit.invariant.bound

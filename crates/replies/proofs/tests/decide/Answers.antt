@@ -1,88 +1,79 @@
--- Each test of the code is the opcode's, on the two forms of a signed number.
-use mathlib.Core.Path.{◌≡◌, refl, sym, ap, ◌∙◌}
-use Prim.Native.Nat.{zero, suc, ◌<◌}
+-- Each test of the code is the opcode's, on the three orders.
+use mathlib.Core.Path.{◌≡◌, refl, ◌∙◌}
 use mathlib.Core.Bool.{not}
-use lib.Dec.{eqb}
-use lib.IntN.{ℤ, pos, negsuc}
-use lib.Signed.{lt_z, le_z}
-use mir.Syntax.{w32}
-use mir.Val.{to_z, of_z, SFits}
-use mir.ValLaws.{to_z-of_z}
-use borrow.Author.Rules.{rules}
-use borrow.Author.Tests.{lt-ltb, le-ltb, le-leb, lt-leb, ne_eqb}
-use Rattle.rules.specs.Testing.{below, level, at_most, decides}
 use native.Mathlib.Omega.{arith}
+use borrow.Author.Tests.{ne_eqb}
+use Rattle.std.specs.declared.cmp.Ordering.{Ordering}
+use Rattle.std.specs.declared.cmp.Ordering.TheVariants.{Less, Equal, Greater}
+use Rattle.std.specs.Ordering.{is_lt, is_le, is_eq, is_ne, is_ge, is_gt}
+use Rattle.octets.specs.Strings.{sign_of}
+use Rattle.rules.specs.Testing.{below, level, at_most, decides}
 use Rattle.replies.proofs.tests.decide.Goals as goal
 
-lt-is : (z : ℤ) → lt_z z (pos 0) ≡ below z
+lt-is : (o : Ordering) → is_lt o ≡ below (sign_of o)
 unfolding below
-lt-is (pos n) = le-ltb n 0 (omega arith)
-lt-is (negsuc n) = refl
+lt-is Less = refl
+lt-is Equal = refl
+lt-is Greater = refl
 
-le_is : (z : ℤ) → le_z z (pos 0) ≡ at_most z
+le-is : (o : Ordering) → is_le o ≡ at_most (sign_of o)
 unfolding below level at_most
-le_is (pos zero) = refl
-le_is (pos (suc n)) = lt-leb (suc n) 0 (omega arith) ∙ sym (ne_eqb (suc n) 0 (λ e. omega arith))
-le_is (negsuc n) = refl
+le-is Less = refl
+le-is Equal = refl
+le-is Greater = refl
 
-ge-is : (z : ℤ) → le_z (pos 0) z ≡ not (below z)
-unfolding below
-ge-is (pos n) = le-leb 0 n (omega arith)
-ge-is (negsuc n) = refl
-
-gt-is : (z : ℤ) → lt_z (pos 0) z ≡ not (at_most z)
-unfolding below level at_most
-gt-is (pos zero) = refl
-gt-is (pos (suc n)) = lt-ltb 0 (suc n) (omega arith) ∙ sym (rw (ne_eqb (suc n) 0 (λ e. omega arith)))
-gt-is (negsuc n) = refl
-
--- The code tests the number that it has stored.
-eq-code : (z : ℤ) → SFits w32 z → eqb (of_z w32 z) 0 ≡ level z
+eq-is : (o : Ordering) → is_eq o ≡ level (sign_of o)
 unfolding level
-eq-code (pos n) f = refl
-eq-code (negsuc n) f = let h : n < 2147483648 = f.sfits in ne_eqb (of_z w32 (negsuc n)) 0 (λ e. omega arith)
+eq-is Less = refl
+eq-is Equal = refl
+eq-is Greater = refl
 
-module _ (z : ℤ) (f : SFits w32 z) where
-  lt-code : lt_z (to_z w32 (of_z w32 z)) (pos 0) ≡ below z
-  lt-code = rw (to_z-of_z w32 z f) (lt-is z)
+ne-is : (o : Ordering) → is_ne o ≡ not (level (sign_of o))
+unfolding level
+ne-is Less = refl
+ne-is Equal = refl
+ne-is Greater = refl
 
-  le-code : le_z (to_z w32 (of_z w32 z)) (pos 0) ≡ at_most z
-  le-code = rw (to_z-of_z w32 z f) (le_is z)
+ge-is : (o : Ordering) → is_ge o ≡ not (below (sign_of o))
+unfolding below
+ge-is Less = refl
+ge-is Equal = refl
+ge-is Greater = refl
 
-  ge-code : le_z (pos 0) (to_z w32 (of_z w32 z)) ≡ not (below z)
-  ge-code = rw (to_z-of_z w32 z f) (ge-is z)
+gt-is : (o : Ordering) → is_gt o ≡ not (at_most (sign_of o))
+unfolding below level at_most
+gt-is Less = refl
+gt-is Equal = refl
+gt-is Greater = refl
 
-  gt-code : lt_z (pos 0) (to_z w32 (of_z w32 z)) ≡ not (at_most z)
-  gt-code = rw (to_z-of_z w32 z f) (gt-is z)
-
-pub returns-then-opcode-eq1 : goal.returns-then-opcode-eq1
+pub returns-in-1 : goal.returns-in-1
 unfolding decides
-returns-then-opcode-eq1 c = rw c.if-opcode-eq1.true (lt-code c.args.order (search rules))
+returns-in-1 c = rw c.in-1.is (c.is_lt.ensures ∙ lt-is c.args.order)
 
-pub returns-then-opcode-eq2 : goal.returns-then-opcode-eq2
+pub returns-in-2 : goal.returns-in-2
 unfolding decides
-returns-then-opcode-eq2 c = rw c.if-opcode-eq2.true (le-code c.args.order (search rules))
+returns-in-2 c = rw c.in-2.is (c.is_le.ensures ∙ le-is c.args.order)
 
-pub returns-then-opcode-eq3 : goal.returns-then-opcode-eq3
+pub returns-in-3 : goal.returns-in-3
 unfolding decides
-returns-then-opcode-eq3 c = rw c.if-opcode-eq3.true (eq-code c.args.order (search rules))
+returns-in-3 c = rw c.in-3.is (c.is_eq.ensures ∙ eq-is c.args.order)
 
-pub returns-then-opcode-eq4 : goal.returns-then-opcode-eq4
+pub returns-in-4 : goal.returns-in-4
 unfolding decides
-returns-then-opcode-eq4 c = rw c.if-opcode-eq4.true (ap not (eq-code c.args.order (search rules)))
+returns-in-4 c = rw c.in-4.is (c.is_ne.ensures ∙ ne-is c.args.order)
 
-pub returns-then-opcode-eq5 : goal.returns-then-opcode-eq5
+pub returns-in-5 : goal.returns-in-5
 unfolding decides
-returns-then-opcode-eq5 c = rw c.if-opcode-eq5.true (ge-code c.args.order (search rules))
+returns-in-5 c = rw c.in-5.is (c.is_ge.ensures ∙ ge-is c.args.order)
 
-pub returns : goal.returns
+pub returns-in_default : goal.returns-in_default
 unfolding decides
-returns c =
-    let a = c.args in
+returns-in_default c =
+    let o = c.args.opcode in
     rw (
-      ne_eqb a.opcode 1 c.if-opcode-eq1.false,
-      ne_eqb a.opcode 2 c.if-opcode-eq2.false,
-      ne_eqb a.opcode 3 c.if-opcode-eq3.false,
-      ne_eqb a.opcode 4 c.if-opcode-eq4.false,
-      ne_eqb a.opcode 5 c.if-opcode-eq5.false,
-    ) (gt-code a.order (search rules))
+      ne_eqb o 1 (λ e. omega arith),
+      ne_eqb o 2 (λ e. omega arith),
+      ne_eqb o 3 (λ e. omega arith),
+      ne_eqb o 4 (λ e. omega arith),
+      ne_eqb o 5 (λ e. omega arith),
+    ) (c.is_gt.ensures ∙ gt-is c.args.order)

@@ -1,10 +1,17 @@
 -- By the flag.
-use mathlib.Core.Path.{sym}
-use Rattle.requests.proofs.FormLaws.{cut-none, cut-some}
+use native.Mathlib.Omega.{arith}
+use borrow.Author.Tests.{lt-leb}
+use Rattle.rules.specs.Requests.{cut_ok}
 use Rattle.requests.proofs.forms.cut_ok.Goals as goal
 
-pub returns-then-flag-eq0 : goal.returns-then-flag-eq0
-returns-then-flag-eq0 c = sym (cut-none _ _ c.if-flag-eq0.true)
+pub returns-in-0 : goal.returns-in-0
+unfolding cut_ok
+returns-in-0 c = rw c.in-0.is
 
-pub returns : goal.returns
-returns c = sym (cut-some _ _ c.if-flag-eq0.false)
+pub returns-in-1 : goal.returns-in-1
+unfolding cut_ok
+returns-in-1 c = rw c.in-1.is
+
+pub returns-in_default : goal.returns-in_default
+unfolding cut_ok
+returns-in_default c = rw (lt-leb c.args.flag 1 (omega arith))

@@ -1,129 +1,65 @@
 -- By the length, then by the first byte, each kind by its own form.
--- The first byte, and the cursor behind it.
 use mathlib.Core.Path.{◌≡◌, sym, ap, ◌∙◌}
-use Prim.Native.Nat.{ℕ}
-use lib.ListN.{get_or}
-use Rattle.requests.specs.Cursors.{byte_at}
-use Rattle.requests.specs.declared.cursors.Byte.{Byte}
-use Rattle.requests.proofs.FormLaws.{by_kind_lem, too_long, unknown_kind, empty_kind}
+use borrow.Author.Tests.{eqb-true}
+use Rattle.std.specs.Prelude.{Some}
+use Rattle.std.specs.Result.{result_ok}
+use Rattle.requests.specs.declared.kinds.Kind.{Kind}
+use Rattle.requests.specs.declared.kinds.Kind.TheVariants.{TestWrite, Add, Renew, Cancel, Read}
+use Rattle.requests.proofs.FormLaws.{empty_kind, too_long, begins_at, takes_kind, takes_none}
 use Rattle.requests.proofs.forms.form_of.Goals as goal
 
-pub returns-then-q-eq0 : goal.returns-then-q-eq0
-returns-then-q-eq0 c = empty_kind _ c.if-q-eq0.true
+pub returns-then-is_empty : goal.returns-then-is_empty
+returns-then-is_empty c = empty_kind _ (eqb-true _ _ (sym c.if-is_empty.ensures))
 
 pub returns-then-q-gt-REQUEST_LIMIT : goal.returns-then-q-gt-REQUEST_LIMIT
 returns-then-q-gt-REQUEST_LIMIT c = too_long _ c.if-q-gt-REQUEST_LIMIT.true
 
 pub test_write_form-requires : goal.test_write_form-requires
-test_write_form-requires c =
-    let first : c.byte-kind.result ≡ byte_at 0 c.args.q.now =
-    c.byte-kind.ensures ∙ ap (λ (p : ℕ). byte_at p c.args.q.now)
-    c.start.ensures in
-    let behind : c.byte-kind.result.next.at ≡ 1 =
-    ap (λ (b : Byte). b.next.at) (first) in
-    (behind, c.if-q-gt-REQUEST_LIMIT.false)
-
-pub returns-then-value-eq1 : goal.returns-then-value-eq1
-returns-then-value-eq1 c =
-    let first : c.byte-kind.result ≡ byte_at 0 c.args.q.now =
-    c.byte-kind.ensures ∙ ap (λ (p : ℕ). byte_at p c.args.q.now)
-    c.start.ensures in
-    let kind : c.byte-kind.result.value
-    ≡ get_or c.args.q.now 0 0 =
-    ap (λ (b : Byte). b.value) (first) in
-    by_kind_lem _ 1 _ c.if-q-gt-REQUEST_LIMIT.false (sym c.if-value-eq1.true
-    ∙ kind) c.test_write_form.ensures
+test_write_form-requires c = (begins_at c.args.q.now c.byte-first.result c.start.ensures c.byte-first.ensures, c.if-q-gt-REQUEST_LIMIT.false)
 
 pub add_form-requires : goal.add_form-requires
-add_form-requires c =
-    let first : c.byte-kind.result ≡ byte_at 0 c.args.q.now =
-    c.byte-kind.ensures ∙ ap (λ (p : ℕ). byte_at p c.args.q.now)
-    c.start.ensures in
-    let behind : c.byte-kind.result.next.at ≡ 1 =
-    ap (λ (b : Byte). b.next.at) (first) in
-    behind
-
-pub returns-then-value-eq2 : goal.returns-then-value-eq2
-returns-then-value-eq2 c =
-    let first : c.byte-kind.result ≡ byte_at 0 c.args.q.now =
-    c.byte-kind.ensures ∙ ap (λ (p : ℕ). byte_at p c.args.q.now)
-    c.start.ensures in
-    let kind : c.byte-kind.result.value
-    ≡ get_or c.args.q.now 0 0 =
-    ap (λ (b : Byte). b.value) (first) in
-    by_kind_lem _ 2 _ c.if-q-gt-REQUEST_LIMIT.false (sym c.if-value-eq2.true
-    ∙ kind) c.add_form.ensures
+add_form-requires c = begins_at c.args.q.now c.byte-first.result c.start.ensures c.byte-first.ensures
 
 pub renew_form-requires : goal.renew_form-requires
-renew_form-requires c =
-    let first : c.byte-kind.result ≡ byte_at 0 c.args.q.now =
-    c.byte-kind.ensures ∙ ap (λ (p : ℕ). byte_at p c.args.q.now)
-    c.start.ensures in
-    let behind : c.byte-kind.result.next.at ≡ 1 =
-    ap (λ (b : Byte). b.next.at) (first) in
-    behind
-
-pub returns-then-value-eq3 : goal.returns-then-value-eq3
-returns-then-value-eq3 c =
-    let first : c.byte-kind.result ≡ byte_at 0 c.args.q.now =
-    c.byte-kind.ensures ∙ ap (λ (p : ℕ). byte_at p c.args.q.now)
-    c.start.ensures in
-    let kind : c.byte-kind.result.value
-    ≡ get_or c.args.q.now 0 0 =
-    ap (λ (b : Byte). b.value) (first) in
-    by_kind_lem _ 3 _ c.if-q-gt-REQUEST_LIMIT.false
-    (sym c.if-value-eq3.true ∙ kind) c.renew_form.ensures
+renew_form-requires c = begins_at c.args.q.now c.byte-first.result c.start.ensures c.byte-first.ensures
 
 pub cancel_form-requires : goal.cancel_form-requires
-cancel_form-requires c =
-    let first : c.byte-kind.result ≡ byte_at 0 c.args.q.now =
-    c.byte-kind.ensures ∙ ap (λ (p : ℕ). byte_at p c.args.q.now)
-    c.start.ensures in
-    let behind : c.byte-kind.result.next.at ≡ 1 =
-    ap (λ (b : Byte). b.next.at) (first) in
-    behind
-
-pub returns-then-value-eq4 : goal.returns-then-value-eq4
-returns-then-value-eq4 c =
-    let first : c.byte-kind.result ≡ byte_at 0 c.args.q.now =
-    c.byte-kind.ensures ∙ ap (λ (p : ℕ). byte_at p c.args.q.now)
-    c.start.ensures in
-    let kind : c.byte-kind.result.value
-    ≡ get_or c.args.q.now 0 0 =
-    ap (λ (b : Byte). b.value) (first) in
-    by_kind_lem _ 4 _ c.if-q-gt-REQUEST_LIMIT.false
-    (sym c.if-value-eq4.true ∙ kind) c.cancel_form.ensures
+cancel_form-requires c = begins_at c.args.q.now c.byte-first.result c.start.ensures c.byte-first.ensures
 
 pub read_form-requires : goal.read_form-requires
-read_form-requires c =
-    let first : c.byte-kind.result ≡ byte_at 0 c.args.q.now =
-    c.byte-kind.ensures ∙ ap (λ (p : ℕ). byte_at p c.args.q.now)
-    c.start.ensures in
-    let behind : c.byte-kind.result.next.at ≡ 1 =
-    ap (λ (b : Byte). b.next.at) (first) in
-    behind
+read_form-requires c = begins_at c.args.q.now c.byte-first.result c.start.ensures c.byte-first.ensures
 
-pub returns-then-value-eq5 : goal.returns-then-value-eq5
-returns-then-value-eq5 c =
-    let first : c.byte-kind.result ≡ byte_at 0 c.args.q.now =
-    c.byte-kind.ensures ∙ ap (λ (p : ℕ). byte_at p c.args.q.now)
-    c.start.ensures in
-    let kind : c.byte-kind.result.value
-    ≡ get_or c.args.q.now 0 0 =
-    ap (λ (b : Byte). b.value) (first) in
-    by_kind_lem _ 5 _ c.if-q-gt-REQUEST_LIMIT.false
-    (sym c.if-value-eq5.true ∙ kind)
-    c.read_form.ensures
+pub returns-in_err-ok : goal.returns-in_err-ok
+returns-in_err-ok c =
+    rw c.from_residual.ensures
+    (takes_none c.args.q.now c.byte-first.result c.start.ensures c.byte-first.ensures c.if-q-gt-REQUEST_LIMIT.false c.try_from.result c.try_from.ensures (sym c.ok.ensures.value ∙ c.in_err-ok.was))
 
-pub returns : goal.returns
-returns c =
-    let first : c.byte-kind.result ≡ byte_at 0 c.args.q.now =
-    c.byte-kind.ensures ∙ ap (λ (p : ℕ). byte_at p c.args.q.now)
-    c.start.ensures in
-    let kind : c.byte-kind.result.value
-    ≡ get_or c.args.q.now 0 0 =
-    ap (λ (b : Byte). b.value) (first) in
-    by_kind_lem _ _ _ c.if-q-gt-REQUEST_LIMIT.false
-    (kind)
-    (unknown_kind _ _ c.if-value-eq1.false c.if-value-eq2.false
-    c.if-value-eq3.false c.if-value-eq4.false c.if-value-eq5.false)
+pub returns-in-TestWrite : goal.returns-in-TestWrite
+returns-in-TestWrite c =
+    let kind : result_ok c.try_from.result ≡ Some TestWrite = sym c.ok.ensures.value ∙ c.in_ok-ok.was ∙ ap (λ (k : Kind). Some k) c.in-TestWrite.is in
+    takes_kind c.args.q.now c.byte-first.result c.start.ensures c.byte-first.ensures c.if-q-gt-REQUEST_LIMIT.false c.try_from.result c.try_from.ensures TestWrite _ kind c.test_write_form.ensures
+
+pub returns-in-Add : goal.returns-in-Add
+returns-in-Add c =
+    let kind : result_ok c.try_from.result ≡ Some Add = sym c.ok.ensures.value ∙ c.in_ok-ok.was ∙ ap (λ (k : Kind). Some k) c.in-Add.is in
+    takes_kind c.args.q.now c.byte-first.result c.start.ensures c.byte-first.ensures c.if-q-gt-REQUEST_LIMIT.false c.try_from.result c.try_from.ensures Add _ kind c.add_form.ensures
+
+pub returns-in-Renew : goal.returns-in-Renew
+returns-in-Renew c =
+    let kind : result_ok c.try_from.result ≡ Some Renew = sym c.ok.ensures.value ∙ c.in_ok-ok.was ∙ ap (λ (k : Kind). Some k) c.in-Renew.is in
+    takes_kind c.args.q.now c.byte-first.result c.start.ensures c.byte-first.ensures c.if-q-gt-REQUEST_LIMIT.false c.try_from.result c.try_from.ensures Renew _ kind c.renew_form.ensures
+
+pub returns-in-Cancel : goal.returns-in-Cancel
+returns-in-Cancel c =
+    let kind : result_ok c.try_from.result ≡ Some Cancel = sym c.ok.ensures.value ∙ c.in_ok-ok.was ∙ ap (λ (k : Kind). Some k) c.in-Cancel.is in
+    takes_kind c.args.q.now c.byte-first.result c.start.ensures c.byte-first.ensures c.if-q-gt-REQUEST_LIMIT.false c.try_from.result c.try_from.ensures Cancel _ kind c.cancel_form.ensures
+
+pub returns-in_err-read_form-in-Read : goal.returns-in_err-read_form-in-Read
+returns-in_err-read_form-in-Read c =
+    let kind : result_ok c.try_from.result ≡ Some Read = sym c.ok.ensures.value ∙ c.in_ok-ok.was ∙ ap (λ (k : Kind). Some k) c.in-Read.is in
+    rw c.from_residual-in_err-read_form-in-Read.ensures (takes_kind c.args.q.now c.byte-first.result c.start.ensures c.byte-first.ensures c.if-q-gt-REQUEST_LIMIT.false c.try_from.result c.try_from.ensures Read _ kind c.in_err-read_form-in-Read.ensures)
+
+pub returns-in_ok-read_form-in-Read : goal.returns-in_ok-read_form-in-Read
+returns-in_ok-read_form-in-Read c =
+    let kind : result_ok c.try_from.result ≡ Some Read = sym c.ok.ensures.value ∙ c.in_ok-ok.was ∙ ap (λ (k : Kind). Some k) c.in-Read.is in
+    takes_kind c.args.q.now c.byte-first.result c.start.ensures c.byte-first.ensures c.if-q-gt-REQUEST_LIMIT.false c.try_from.result c.try_from.ensures Read _ kind c.in_ok-read_form-in-Read.ensures

@@ -7,7 +7,7 @@ use Rattle.format.specs.Layout.{secret_size}
 use Rattle.requests.specs.Cursors.{body_at}
 use Rattle.requests.proofs.FormLaws.{renew-length, renew_taken}
 use Rattle.requests.specs.declared.cursors.Body.{Body}
-use Rattle.requests.specs.declared.cursors.Number.{Number}
+use Rattle.requests.specs.declared.cursors.Next.{Next}
 use Rattle.requests.proofs.forms.renew_form.Goals as goal
 
 pub returns-then-q : goal.returns-then-q
@@ -26,4 +26,4 @@ returns c =
     let q = c.args.q.now in
     let e = ap (λ (b : Body). b.next.at) (token) in
     renew_taken _ _ _ c.if-q.false c.requires
-    (ap (λ (x : Number). x.value) c.number.ensures ∙ ap (λ (p : ℕ). number_at 4 p q) e)
+    (ap (λ (x : Next ℕ). x.value) c.number.ensures ∙ ap (λ (p : ℕ). number_at 4 p q) e)

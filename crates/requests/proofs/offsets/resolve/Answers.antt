@@ -1,7 +1,6 @@
 -- By the sign of the offset; the code tests, subtracts and casts the number that it has stored, which is the offset
 -- itself.
-use Rattle.requests.proofs.CursorLaws.{resolved_fits, resolved-above, behind, behind_fits, resolved_before}
-use Rattle.requests.proofs.CursorLaws.{resolved_inside}
+use Rattle.requests.proofs.CursorLaws.{resolved_fits, resolved-above, behind, behind_fits, resolved-behind}
 use Rattle.requests.proofs.offsets.resolve.Goals as goal
 
 pub overflow_cast-result : goal.overflow_cast-result
@@ -16,8 +15,5 @@ overflow_sub-back c = (behind c.args.offset c.args.size c.ranges.offset c.if-off
 pub overflow_cast-back : goal.overflow_cast-back
 overflow_cast-back c = behind_fits c.args.offset c.args.size c.ranges.offset c.if-offset-ge0.false
 
-pub returns-then-size-back : goal.returns-then-size-back
-returns-then-size-back c = resolved_before c.args.offset c.args.size c.ranges.offset c.if-offset-ge0.false c.if-size-back.true
-
 pub returns : goal.returns
-returns c = resolved_inside c.args.offset c.args.size c.ranges.offset c.if-offset-ge0.false c.if-size-back.false
+returns c = resolved-behind c.args.offset c.args.size c.ranges.offset c.if-offset-ge0.false _ c.checked_sub.ensures

@@ -4,12 +4,12 @@ use Rattle.share_contents.specs.Contents.{blocks_ok}
 use Rattle.share_contents.proofs.contents.blocks_ok.Goals as goal
 
 pub segments-requires : goal.segments-requires
-segments-requires c = c.requires.1 c.if-mdmf.true
+segments-requires c = c.requires.1 (rw c.in-Mdmf.is)
 
-pub returns-then-mdmf : goal.returns-then-mdmf
+pub returns-in-Mdmf : goal.returns-in-Mdmf
 unfolding blocks_ok
-returns-then-mdmf c = c.salted_ok.ensures ∙ rw (c.if-mdmf.true, c.segments.ensures)
+returns-in-Mdmf c = c.salted_ok.ensures ∙ rw (c.in-Mdmf.is, c.segments.ensures)
 
-pub returns-else-mdmf : goal.returns-else-mdmf
+pub returns-in-Sdmf : goal.returns-in-Sdmf
 unfolding blocks_ok
-returns-else-mdmf c = rw c.if-mdmf.false
+returns-in-Sdmf c = rw c.in-Sdmf.is

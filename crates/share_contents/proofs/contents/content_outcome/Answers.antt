@@ -4,6 +4,7 @@ use mathlib.Core.Bool.{true}
 use borrow.Author.Tests.{eq-eqb, ne_eqb}
 use Rattle.octets.specs.Rows.{first_row}
 use Rattle.share_contents.specs.Contents.{chain_ok, tree_ok, blocks_ok, content_rows}
+use Rattle.share_format.specs.Editions.{is_mdmf}
 use Rattle.share_numbers.proofs.CodingLaws.{segment_some}
 use Rattle.share_contents.proofs.contents.content_outcome.Goals as goal
 
@@ -18,7 +19,7 @@ pub returns-then-not-tree_ok : goal.returns-then-not-tree_ok
 unfolding content_rows first_row
 returns-then-not-tree_ok c =
     let chained : let a = c.args in
-    chain_ok a.n a.chain.now ≡ true =
+    chain_ok a.numbers.total a.chain.now ≡ true =
     sym c.chain_ok.ensures ∙ c.if-not-chain_ok.false in
     rw (chained, sym c.tree_ok.ensures ∙ c.if-not-tree_ok.true)
 
@@ -29,37 +30,37 @@ pub returns-then-not-blocks_ok : goal.returns-then-not-blocks_ok
 unfolding content_rows first_row
 returns-then-not-blocks_ok c =
     let chained : let a = c.args in
-    chain_ok a.n a.chain.now ≡ true =
+    chain_ok a.numbers.total a.chain.now ≡ true =
     sym c.chain_ok.ensures ∙ c.if-not-chain_ok.false in
     let treed : let a = c.args in
-    tree_ok a.mdmf a.segment a.data_length a.tree.now ≡ true =
+    tree_ok (is_mdmf a.edition) a.numbers.segment_size a.numbers.data_length a.tree.now ≡ true =
     sym c.tree_ok.ensures ∙ c.if-not-tree_ok.false in
     rw (chained, treed, sym c.blocks_ok.ensures ∙ c.if-not-blocks_ok.true)
 
-pub returns-then-sequence-eq-LAST_SEQUENCE : goal.returns-then-sequence-eq-LAST_SEQUENCE
+pub returns-then-numbers-eq-LAST_SEQUENCE : goal.returns-then-numbers-eq-LAST_SEQUENCE
 unfolding content_rows first_row
-returns-then-sequence-eq-LAST_SEQUENCE c =
+returns-then-numbers-eq-LAST_SEQUENCE c =
     let chained : let a = c.args in
-    chain_ok a.n a.chain.now ≡ true =
+    chain_ok a.numbers.total a.chain.now ≡ true =
     sym c.chain_ok.ensures ∙ c.if-not-chain_ok.false in
     let treed : let a = c.args in
-    tree_ok a.mdmf a.segment a.data_length a.tree.now ≡ true =
+    tree_ok (is_mdmf a.edition) a.numbers.segment_size a.numbers.data_length a.tree.now ≡ true =
     sym c.tree_ok.ensures ∙ c.if-not-tree_ok.false in
     let blocked : let a = c.args in
-    blocks_ok a.mdmf a.segment a.k a.data_length a.share_data.now ≡ true =
+    blocks_ok (is_mdmf a.edition) a.numbers.segment_size a.numbers.required a.numbers.data_length a.share_data.now ≡ true =
     sym c.blocks_ok.ensures ∙ c.if-not-blocks_ok.false in
-    rw (chained, treed, blocked, eq-eqb _ _ c.if-sequence-eq-LAST_SEQUENCE.true)
+    rw (chained, treed, blocked, eq-eqb _ _ c.if-numbers-eq-LAST_SEQUENCE.true)
 
 pub returns : goal.returns
 unfolding content_rows first_row
 returns c =
     let chained : let a = c.args in
-    chain_ok a.n a.chain.now ≡ true =
+    chain_ok a.numbers.total a.chain.now ≡ true =
     sym c.chain_ok.ensures ∙ c.if-not-chain_ok.false in
     let treed : let a = c.args in
-    tree_ok a.mdmf a.segment a.data_length a.tree.now ≡ true =
+    tree_ok (is_mdmf a.edition) a.numbers.segment_size a.numbers.data_length a.tree.now ≡ true =
     sym c.tree_ok.ensures ∙ c.if-not-tree_ok.false in
     let blocked : let a = c.args in
-    blocks_ok a.mdmf a.segment a.k a.data_length a.share_data.now ≡ true =
+    blocks_ok (is_mdmf a.edition) a.numbers.segment_size a.numbers.required a.numbers.data_length a.share_data.now ≡ true =
     sym c.blocks_ok.ensures ∙ c.if-not-blocks_ok.false in
-    rw (chained, treed, blocked, ne_eqb _ _ c.if-sequence-eq-LAST_SEQUENCE.false)
+    rw (chained, treed, blocked, ne_eqb _ _ c.if-numbers-eq-LAST_SEQUENCE.false)

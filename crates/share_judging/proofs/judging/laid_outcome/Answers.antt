@@ -1,42 +1,25 @@
 -- The numbers as they were read; the parts are those that the definition takes.
-use mathlib.Core.Path.{◌≡◌, ◌∙◌}
-use mathlib.Core.Bool.{true, false}
+use mathlib.Core.Path.{◌∙◌}
 use mathlib.Core.List.{List}
 use Prim.Native.Nat.{ℕ, ◌<◌}
-use native.Mathlib.Omega.{arith}
 use Rattle.share_format.specs.Facts.{PartInside, PartsInside}
-use Rattle.share_format.specs.Header.{Edition}
-use Rattle.share_format.specs.Parts.{chain_part, tree_part, share_data_part}
 use Rattle.share_judging.specs.Judging.{laid_rows}
 use Rattle.share_judging.proofs.judging.laid_outcome.Goals as goal
 
--- Each of the three is one of seven parts.
-chain-below : (e : Edition) → chain_part e < 7
-chain-below false = omega arith
-chain-below true = omega arith
-
-tree-below : (e : Edition) → tree_part e < 7
-tree-below false = omega arith
-tree-below true = omega arith
-
-data-below : (e : Edition) → share_data_part e < 7
-data-below false = omega arith
-data-below true = omega arith
-
-inside : (bs : List ℕ) (n : ℕ) {i j : ℕ} → j < 7 → PartsInside bs n → i ≡ j → (i < 7) × PartInside bs n i
-inside bs n {i} {j} h p e = rw e (h, p j h)
+inside : (bs : List ℕ) (n i : ℕ) → i < 7 → PartsInside bs n → (i < 7) × PartInside bs n i
+inside bs n i h p = (h, p i h)
 
 pub part-requires : goal.part-requires
-part-requires c = inside _ _ (chain-below c.args.mdmf) c.requires.3 c.chain_part.ensures
+part-requires c = inside _ _ _ c.number.ensures.below c.requires.3
 
 pub part-requires-2 : goal.part-requires-2
-part-requires-2 c = inside _ _ (tree-below c.args.mdmf) c.requires.3 c.tree_part.ensures
+part-requires-2 c = inside _ _ _ c.number-2.ensures.below c.requires.3
 
 pub part-requires-3 : goal.part-requires-3
-part-requires-3 c = inside _ _ (data-below c.args.mdmf) c.requires.3 c.share_data_part.ensures
+part-requires-3 c = inside _ _ _ c.number-3.ensures.below c.requires.3
 
 pub content_outcome-requires : goal.content_outcome-requires
-content_outcome-requires c = rw (c.required.ensures, c.segment_size.ensures, c.data_length.ensures) (c.requires.1, c.requires.2)
+content_outcome-requires c = rw c.read.ensures (c.requires.1, c.requires.2)
 
 pub returns : goal.returns
 unfolding laid_rows
@@ -44,14 +27,10 @@ returns c =
     c.content_outcome.ensures
     ∙ rw (
       c.part-3.ensures.bytes,
-      c.share_data_part.ensures,
+      c.number-3.ensures.is,
       c.part-2.ensures.bytes,
-      c.tree_part.ensures,
+      c.number-2.ensures.is,
       c.part.ensures.bytes,
-      c.chain_part.ensures,
-      c.data_length.ensures,
-      c.segment_size.ensures,
-      c.total.ensures,
-      c.required.ensures,
-      c.sequence.ensures,
+      c.number.ensures.is,
+      c.read.ensures,
     )

@@ -1,26 +1,22 @@
--- The first number that is not 0 wins, so the head is asked before the body.
-use mathlib.Core.Path.{◌≡◌, sym, ◌∙◌}
-use Rattle.octets.specs.Rows.{first_row}
-use Rattle.share_format.specs.Header.{edition_of}
-use Rattle.share_judging.specs.Judging.{head_rows}
+-- A fault of the head is the first that applies; else the body is asked.
+use mathlib.Core.Path.{sym, ◌∙◌}
+use native.Mathlib.Omega.{arith}
+use Rattle.std.proofs.lemmas.Result.{err_from_is_err_and}
+use Rattle.share_contents.proofs.FaultLaws.{number_of-above}
 use Rattle.share_judging.proofs.JudgingLaws.{outcome-head, outcome_body, head_facts}
 use Rattle.share_judging.proofs.judging.outcome.Goals as goal
 
-pub returns-then-head-ne0 : goal.returns-then-head-ne0
-returns-then-head-ne0 c =
-    let headed : let s = c.args.s.now in
-    c.head_outcome-head.result ≡ first_row (head_rows (edition_of s) s) =
-    rw (← c.is_mdmf-mdmf.ensures) c.head_outcome-head.ensures in
-    let h = headed in
-    h ∙ sym (outcome-head _ (λ z. c.if-head-ne0.true (h ∙ z)))
-
 pub body_outcome-requires : goal.body_outcome-requires
-body_outcome-requires c = head_facts _ _ (sym c.head_outcome-head.ensures ∙ c.if-head-ne0.false)
+body_outcome-requires c = head_facts _ _ (sym c.in_ok-head_outcome.ensures)
+
+pub returns-in_err-head_outcome : goal.returns-in_err-head_outcome
+returns-in_err-head_outcome c =
+    let p = err_from_is_err_and c.from_residual.result c.from_residual.ensures.1 in
+    let h = rw c.of-edition.ensures at c.in_err-head_outcome.ensures in
+    let a = number_of-above c.in_err-head_outcome.field-0.0 in
+    rw (p.1, p.2) (h ∙ sym (outcome-head _ (λ z. omega (arith, a, h ∙ z))))
 
 pub returns : goal.returns
 returns c =
-    let headed : let s = c.args.s.now in
-    c.head_outcome-head.result ≡ first_row (head_rows (edition_of s) s) =
-    rw (← c.is_mdmf-mdmf.ensures) c.head_outcome-head.ensures in
-    let z = sym (headed) ∙ c.if-head-ne0.false in
-    rw c.is_mdmf-mdmf.ensures at c.body_outcome.ensures ∙ sym (outcome_body _ z)
+    let e = c.of-edition.ensures in
+    rw e at c.body_outcome.ensures ∙ sym (outcome_body _ (rw e at (sym c.in_ok-head_outcome.ensures)))

@@ -1,29 +1,16 @@
--- Where n is no multiple, the least one above it is n and what its remainder lacks of k.
-use mathlib.Core.Path.{refl, sym}
-use mathlib.Core.Bool.{false≢true}
-use native.Mathlib.Nat.{mod-lt}
-use native.Mathlib.Omega.{arith}
-use Rattle.share_format.proofs.HeaderLaws.{fits_64, exceeds_64}
-use Rattle.share_format.proofs.MultipleLaws.{least_whole, least_more}
+-- The library's own.
+use Rattle.std.specs.Prelude.{ℕ, ◌+◌, ◌-◌, ◌%◌, ◌<◌, Option, Some, None, SomeIff}
+use Rattle.share_format.proofs.MultipleLaws.{least-next}
 use Rattle.share_numbers.proofs.coding.least_multiple.Goals as goal
 
-pub returns-then-rem-eq0 : goal.returns-then-rem-eq0
-returns-then-rem-eq0 c =
-    let a = c.args in
-    let e = least_whole a.k a.n c.if-rem-eq0.true in
-    (rw e (sym (fits_64 _ (omega arith))), λ t. sym e, λ t. absurd (false≢true (sym t)))
-
-pub overflow_sub-more : goal.overflow_sub-more
-overflow_sub-more c = omega (arith, mod-lt c.args.n c.requires)
-
-pub returns-then-n-more : goal.returns-then-n-more
-returns-then-n-more c =
-    let a = c.args in
-    let e = least_more a.k a.n c.requires c.if-rem-eq0.false in
-    (rw e (sym (exceeds_64 _ (omega arith))), λ t. absurd (false≢true t), λ t. refl)
+same_iff : (r : Option ℕ) (k m v : ℕ) → 0 < k → SomeIff r ((0 < k) × (m < 18446744073709551616)) v
+    → SomeIff r (m < 18446744073709551616) v
+same_iff None k m v p h = λ q. h (p, q)
+same_iff (Some x) k m v p h = (h.0.1, h.1)
 
 pub returns : goal.returns
 returns c =
     let a = c.args in
-    let e = least_more a.k a.n c.requires c.if-rem-eq0.false in
-    (rw e (sym (fits_64 _ (omega arith))), λ t. sym e, λ t. absurd (false≢true (sym t)))
+    let m : ℕ = a.n + (a.k - a.n % a.k) % a.k in
+    rw (least-next a.k a.n c.requires)
+    (same_iff c.checked_next_multiple_of.result a.k m m c.requires c.checked_next_multiple_of.ensures)

@@ -25,5 +25,5 @@ returns c =
     let e6 = stored_at 0 _ (iv_at + length a.iv.now + 2) _ _ _ s6 (omega arith) in
     let s7 = stored_more 0 _ number_size _ _ _ _ _ e6 c.put_u64-2.ensures (length_digits number_size _) in
     let e7 = stored_at 0 _ (iv_at + length a.iv.now + 10) _ _ _ s7 (omega arith) in
-    rw (← c.version_of.ensures)
+    rw (← c.version.ensures)
     (stored_more 0 _ number_size _ _ _ _ _ e7 c.put_u64-3.ensures (length_digits number_size _)).is

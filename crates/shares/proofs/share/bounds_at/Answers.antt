@@ -4,6 +4,7 @@ use mathlib.Core.List.{List}
 use Prim.Native.Nat.{ℕ}
 use native.Mathlib.Omega.{arith}
 use lib.ListN.{get_or}
+use Rattle.share_format.specs.Editions.{is_mdmf}
 use Rattle.shares.specs.Share.{bounds_at}
 use Rattle.shares.proofs.ShareLaws.{bound_below, moved_listed}
 use Rattle.shares.proofs.share.bounds_at.Goals as goal
@@ -52,4 +53,4 @@ pub returns : goal.returns
 unfolding bounds_at
 returns c =
     let a = c.args in
-    rw c.bounds-bounds.ensures (moved_listed a.mdmf a.base a.s.now ∙ rw c.requires.0)
+    rw c.bounds-bounds.ensures (moved_listed (is_mdmf a.edition) a.base a.s.now ∙ rw c.requires.0)

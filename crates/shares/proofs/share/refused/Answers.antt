@@ -2,4 +2,4 @@
 use Rattle.shares.proofs.share.refused.Goals as goal
 
 pub returns : goal.returns
-returns c = rw c.version_of.ensures
+returns c = rw c.version.ensures

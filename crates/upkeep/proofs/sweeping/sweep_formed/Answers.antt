@@ -2,6 +2,7 @@
 use mathlib.Core.Path.{◌∙◌}
 use Prim.Native.Nat.{◌+◌}
 use native.Mathlib.Omega.{arith}
+use Rattle.std.proofs.Common.{rules}
 use Rattle.octets.specs.Facts.{Octets}
 use Rattle.leases.proofs.PlaceLaws.{known_bounds}
 use Rattle.upkeep.proofs.SweepLaws.{AllSwept, all_swept}
@@ -31,7 +32,7 @@ overflow_add-result c =
     AllSwept a.time a.c.now a.frame (c.sweep_places-first.result + c.sweep_places-more.result)
     c.sweep_places-more.new.c =
     let a = c.args in
-    let o : Octets a.c.now = λ j. omega (arith, c.slice_known-1.given j) in
+    let o : Octets a.c.now = λ j. search rules in
     all_swept a.c.now a.frame c.requires o a.time _ _ _ _ _ (c.sweep_places-first.ensures.value, c.sweep_places-first.ensures.c_after)
     c.extras_at.ensures (c.sweep_places-more.ensures.value, c.sweep_places-more.ensures.c_after) in
     let b = left in omega arith
@@ -42,7 +43,7 @@ returns c =
     AllSwept a.time a.c.now a.frame (c.sweep_places-first.result + c.sweep_places-more.result)
     c.sweep_places-more.new.c =
     let a = c.args in
-    let o : Octets a.c.now = λ j. omega (arith, c.slice_known-1.given j) in
+    let o : Octets a.c.now = λ j. search rules in
     all_swept a.c.now a.frame c.requires o a.time _ _ _ _ _ (c.sweep_places-first.ensures.value, c.sweep_places-first.ensures.c_after)
     c.extras_at.ensures (c.sweep_places-more.ensures.value, c.sweep_places-more.ensures.c_after) in
     let b = left in

@@ -1,41 +1,28 @@
 -- The invariant: what is left, swept into the present bytes, is the whole, swept into the first. Assumes nothing.
-use Prim.Native.Nat.{◌+◌, ◌-◌}
+use mathlib.Core.Path.{◌≡◌, sym, ◌∙◌}
+use mathlib.Core.Bool.{Bool, true, false}
+use native.Mathlib.Nat.{add-zero}
 use native.Mathlib.Omega.{arith}
-use Rattle.format.specs.Layout.{record_size}
-use Rattle.upkeep.proofs.SweepLaws.{Sweeping, sweeping-none, sweeping_more, sweeping_all}
+use Rattle.upkeep.proofs.SweepLaws.{sweeping-none, sweeping_more, sweeping_all}
 use Rattle.upkeep.proofs.sweeping.sweep_places.Goals as goal
+use Rattle.upkeep.proofs.sweeping.sweep_places.Goals.{then-sweep_place, else-sweep_place}
 
-pub loop-left-init : goal.loop-left-init
-loop-left-init c =
-    let a = c.args in
-    sweeping-none a.time a.from a.n a.c.now c.requires.0 c.requires.1
+pub loop-i-init : goal.loop-i-init
+loop-i-init c = let a = c.args in sweeping-none a.time a.from a.n a.c.now c.requires.0
 
-pub overflow_add-count : goal.overflow_add-count
-overflow_add-count c =
-    let turn : let a = c.args in
-    Sweeping a.time a.from a.n a.c.now (c.loop-left.left - 1) (c.loop-left.at + record_size)
-    (c.loop-left.count + c.sweep_place-count.result) c.sweep_place-count.new.c =
+pub loop-i-preserved : goal.loop-i-preserved
+loop-i-preserved c =
     let a = c.args in
-    sweeping_more a.time a.from a.n a.c.now c.loop-left.left c.loop-left.at c.loop-left.count _ c.loop-left.c _
-    c.loop-left.invariant (omega arith) (c.sweep_place-count.ensures.value, c.sweep_place-count.ensures.c_after) in
-    let t = turn in omega arith
-
-pub loop-left-preserved : goal.loop-left-preserved
-loop-left-preserved c =
-    let turn : let a = c.args in
-    Sweeping a.time a.from a.n a.c.now (c.loop-left.left - 1) (c.loop-left.at + record_size)
-    (c.loop-left.count + c.sweep_place-count.result) c.sweep_place-count.new.c =
-    let a = c.args in
-    sweeping_more a.time a.from a.n a.c.now c.loop-left.left c.loop-left.at c.loop-left.count _ c.loop-left.c _
-    c.loop-left.invariant (omega arith) (c.sweep_place-count.ensures.value, c.sweep_place-count.ensures.c_after) in
-    turn
+    let turn = λ (b : Bool) (e : c.sweep_place.result ≡ b).
+    sweeping_more a.time a.from a.n a.c.now c.loop-i.i c.loop-i.count b c.loop-i.c _ c.loop-i.invariant
+    c.loop-i-test.true (sym e ∙ c.sweep_place.ensures.value, c.sweep_place.ensures.c_after) in
+    elim c.if-sweep_place.branch [
+      | then-sweep_place w ↦ rw w.count-is (turn true w.if-sweep_place.true)
+      | else-sweep_place w ↦ rw (w.count-is, ← add-zero c.loop-i.count) (turn false w.if-sweep_place.false)
+    ]
 
 pub returns : goal.returns
 returns c =
     let a = c.args in
-    let both = sweeping_all a.time a.from a.n a.c.now c.loop-left.left c.loop-left.at c.loop-left.count c.loop-left.c
-    c.loop-left.invariant (omega arith) in
-    record {
-      value = both.0;
-      c_after = both.1;
-    }
+    let both = sweeping_all a.time a.from a.n a.c.now c.loop-i.i c.loop-i.count c.loop-i.c c.loop-i.invariant (omega arith) in
+    record { value = both.0; c_after = both.1 }

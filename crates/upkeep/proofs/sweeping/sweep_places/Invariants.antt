@@ -2,8 +2,5 @@
 use Rattle.upkeep.proofs.SweepLaws.{Sweeping}
 use Rattle.upkeep.proofs.sweeping.sweep_places.Given as goal
 
-abbrev pub invariant-loop-left : goal.invariant-loop-left
-invariant-loop-left l = Sweeping l.time l.from l.n l.initial.c l.left l.at l.count l.c
-
-abbrev pub decreases-loop-left : goal.decreases-loop-left
-decreases-loop-left l = l.left
+abbrev pub invariant-loop-i : goal.invariant-loop-i
+invariant-loop-i l = Sweeping l.time l.from l.n l.initial.c l.i l.count l.c

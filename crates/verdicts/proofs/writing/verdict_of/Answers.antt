@@ -1,142 +1,118 @@
--- The three groups of rows in turn, on what has been measured.
-use mathlib.Core.Path.{◌≡◌}
+-- The rows in turn, on what has been measured.
+use mathlib.Core.Path.{◌≡◌, sym, ◌∙◌}
 use Prim.Native.Nat.{◌+◌}
 use native.Mathlib.Omega.{arith}
-use Rattle.octets.specs.Rows.{first_row}
+use Rattle.std.specs.Prelude.{None}
+use Rattle.std.proofs.lemmas.Result.{err_from_is_err_and}
 use Rattle.format.specs.Layout.{data_at}
 use Rattle.format.proofs.WellFormed.{moved-below}
-use Rattle.format.proofs.KnownLaws.{lent, known_room, data_lent_lem, lent_small}
-use Rattle.verdicts.proofs.VerdictLaws.{Found, final_bound, admits, fits, admit_verdict, find_verdict}
-use Rattle.verdicts.proofs.VerdictLaws.{fit_verdict}
+use Rattle.format.proofs.KnownLaws.{lent, known_room, lent_small}
+use Rattle.rules.specs.declared.outcomes.Refusal.TheVariants.{BeforeStart}
+use Rattle.verdicts.proofs.VerdictLaws.{Judging, judging, unmeasured, unreached, wrong_enabler, short_reply}
+use Rattle.verdicts.proofs.VerdictLaws.{test_false, no_room, accepted, final_small}
 use Rattle.verdicts.proofs.writing.verdict_of.Goals as goal
 
-pub data_end-e-requires : goal.data_end-e-requires
-data_end-e-requires c = omega (arith, known_room c.requires.0)
+pub data_end-to-requires : goal.data_end-to-requires
+data_end-to-requires c = omega (arith, known_room c.requires.0)
 
 pub slice_bounds-d-end : goal.slice_bounds-d-end
-slice_bounds-d-end c = omega (arith, c.data_end-e.ensures, known_room c.requires.0)
+slice_bounds-d-end c = omega (arith, c.data_end-to.ensures, known_room c.requires.0)
 
-pub measure-asked-requires : goal.measure-asked-requires
-measure-asked-requires c = (c.requires.1.tests, lent_small c.requires.0 c.data_end-e.ensures)
+pub measure-requires : goal.measure-requires
+measure-requires c = (c.requires.1.tests, lent_small c.requires.0 c.data_end-to.ensures)
 
-pub reach-reached-requires : goal.reach-reached-requires
-reach-reached-requires c = (c.requires.1, omega (arith, known_room c.requires.0))
+pub returns-in_err-reply : goal.returns-in_err-reply
+returns-in_err-reply c =
+    let J : let a = c.args in Judging a.c.now a.q.now (lent a.c.now c.data_end-to.result) a.frame a.t =
+    judging c.requires c.data_end-to.ensures in
+    let p = err_from_is_err_and c.from_residual.result c.from_residual.ensures.1 in
+    let n : c.measure.result ≡ None = c.in_err-reply.ensures.ok_part in
+    let m : c.in_err-reply.field-0.0 ≡ BeforeStart = cc (rw n at c.in_err-reply.ensures.value) in
+    rw (p.1, p.2, m) (unmeasured J c.args.space (sym c.measure.ensures ∙ n))
 
-pub admit-admitted-requires : goal.admit-admitted-requires
-admit-admitted-requires c = (omega (arith, known_room c.requires.0), c.requires.1.enabler)
+pub reach-requires : goal.reach-requires
+reach-requires c = (c.requires.1, omega (arith, known_room c.requires.0))
 
-pub returns-then-admitted-ne0 : goal.returns-then-admitted-ne0
-returns-then-admitted-ne0 c =
-    let found : let a = c.args in
-    Found a.c.now a.q.now (lent a.c.now c.data_end-e.result) a.frame
-    a.t c.measure-asked.result c.reach-reached.result c.cut_size-size.result =
-    record {
-      known = c.requires.0;
-      parted = c.requires.1;
-      bytes = data_lent_lem c.requires.0
-          c.data_end-e.ensures;
-      measured = c.measure-asked.ensures;
-      reached = c.reach-reached.ensures;
-      final = c.cut_size-size.ensures;
-    } in
-    let admitted : c.admit-admitted.result
-    ≡ first_row
-    (admits found
-    c.args.space) =
-    rw c.both-resolves.ensures at c.admit-admitted.ensures in
-    admit_verdict (found)
-    c.args.space _
-    (admitted) c.if-admitted-ne0.true
+pub returns-in_err-reached : goal.returns-in_err-reached
+returns-in_err-reached c =
+    let J : let a = c.args in Judging a.c.now a.q.now (lent a.c.now c.data_end-to.result) a.frame a.t =
+    judging c.requires c.data_end-to.ensures in
+    let w = sym c.measure.ensures ∙ c.in_ok-reply.ensures.ok_part in
+    let p = err_from_is_err_and c.from_residual-in_err-reached.result c.from_residual-in_err-reached.ensures.1 in
+    let n : c.reach.result ≡ None = c.in_err-reached.ensures.ok_part in
+    let m : c.in_err-reached.field-0.0 ≡ BeforeStart = cc (rw n at c.in_err-reached.ensures.value) in
+    rw (p.1, p.2, m) (unreached J c.args.space w (sym c.reach.ensures ∙ n))
 
-pub returns-then-found-ne0 : goal.returns-then-found-ne0
-returns-then-found-ne0 c =
-    let found : let a = c.args in
-    Found a.c.now a.q.now (lent a.c.now c.data_end-e.result) a.frame
-    a.t c.measure-asked.result c.reach-reached.result c.cut_size-size.result =
-    record {
-      known = c.requires.0;
-      parted = c.requires.1;
-      bytes = data_lent_lem c.requires.0
-          c.data_end-e.ensures;
-      measured = c.measure-asked.ensures;
-      reached = c.reach-reached.ensures;
-      final = c.cut_size-size.ensures;
-    } in
-    let admitted : c.admit-admitted.result
-    ≡ first_row
-    (admits found
-    c.args.space) =
-    rw c.both-resolves.ensures at c.admit-admitted.ensures in
-    find_verdict (found)
-    c.args.space _
-    (admitted) c.if-admitted-ne0.false _ c.find-found.ensures c.if-found-ne0.true
+pub enables-requires : goal.enables-requires
+enables-requires c = (omega (arith, known_room c.requires.0), c.requires.1.enabler)
+
+pub returns-then-not-enables : goal.returns-then-not-enables
+returns-then-not-enables c =
+    let J : let a = c.args in Judging a.c.now a.q.now (lent a.c.now c.data_end-to.result) a.frame a.t =
+    judging c.requires c.data_end-to.ensures in
+    let w = sym c.measure.ensures ∙ c.in_ok-reply.ensures.ok_part in
+    let x = sym c.reach.ensures ∙ c.in_ok-reached.ensures.ok_part in
+    wrong_enabler J c.args.space w x (sym c.enables.ensures ∙ c.if-not-enables.true)
+
+pub returns-then-space-reply : goal.returns-then-space-reply
+returns-then-space-reply c =
+    let J : let a = c.args in Judging a.c.now a.q.now (lent a.c.now c.data_end-to.result) a.frame a.t =
+    judging c.requires c.data_end-to.ensures in
+    let w = sym c.measure.ensures ∙ c.in_ok-reply.ensures.ok_part in
+    let x = sym c.reach.ensures ∙ c.in_ok-reached.ensures.ok_part in
+    let e = sym c.enables.ensures ∙ c.if-not-enables.false in
+    short_reply J c.args.space w x e c.if-space-reply.true
+
+pub returns-then-not-all_hold : goal.returns-then-not-all_hold
+returns-then-not-all_hold c =
+    let J : let a = c.args in Judging a.c.now a.q.now (lent a.c.now c.data_end-to.result) a.frame a.t =
+    judging c.requires c.data_end-to.ensures in
+    let w = sym c.measure.ensures ∙ c.in_ok-reply.ensures.ok_part in
+    let x = sym c.reach.ensures ∙ c.in_ok-reached.ensures.ok_part in
+    let e = sym c.enables.ensures ∙ c.if-not-enables.false in
+    test_false J c.args.space w x e c.if-space-reply.false (sym c.all_hold.ensures ∙ c.if-not-all_hold.true)
 
 pub resized-after-requires : goal.resized-after-requires
 resized-after-requires c =
-    let found : let a = c.args in
-    Found a.c.now a.q.now (lent a.c.now c.data_end-e.result) a.frame
-    a.t c.measure-asked.result c.reach-reached.result c.cut_size-size.result =
-    record {
-      known = c.requires.0;
-      parted = c.requires.1;
-      bytes = data_lent_lem c.requires.0
-          c.data_end-e.ensures;
-      measured = c.measure-asked.ensures;
-      reached = c.reach-reached.ensures;
-      final = c.cut_size-size.ensures;
-    } in
-    let b = final_bound (found) in
+    let J : let a = c.args in Judging a.c.now a.q.now (lent a.c.now c.data_end-to.result) a.frame a.t =
+    judging c.requires c.data_end-to.ensures in
+    let w = sym c.measure.ensures ∙ c.in_ok-reply.ensures.ok_part in
+    let x = sym c.reach.ensures ∙ c.in_ok-reached.ensures.ok_part in
+    let b = final_small J c.args.space w x _ c.cut_size-size.ensures in
     let k = known_room c.requires.0 in
     omega (arith, c.requires.1.short)
 
 pub used-requires : goal.used-requires
 used-requires c =
-    let found : let a = c.args in
-    Found a.c.now a.q.now (lent a.c.now c.data_end-e.result) a.frame
-    a.t c.measure-asked.result c.reach-reached.result c.cut_size-size.result =
-    record {
-      known = c.requires.0;
-      parted = c.requires.1;
-      bytes = data_lent_lem c.requires.0
-          c.data_end-e.ensures;
-      measured = c.measure-asked.ensures;
-      reached = c.reach-reached.ensures;
-      final = c.cut_size-size.ensures;
-    } in
-    let b = final_bound (found) in
+    let J : let a = c.args in Judging a.c.now a.q.now (lent a.c.now c.data_end-to.result) a.frame a.t =
+    judging c.requires c.data_end-to.ensures in
+    let w = sym c.measure.ensures ∙ c.in_ok-reply.ensures.ok_part in
+    let x = sym c.reach.ensures ∙ c.in_ok-reached.ensures.ok_part in
+    let b = final_small J c.args.space w x _ c.cut_size-size.ensures in
     let k = known_room c.requires.0 in
-    let a = c.args in
-    let n = c.cut_size-size.result in
     rw c.resized-after.ensures (
-      moved-below a.frame.offset n (data_at + 4294967296) (omega arith) (omega (arith, c.requires.1.short)),
+      moved-below _ _ (data_at + 4294967296) (omega arith) (omega (arith, c.requires.1.short)),
       omega arith,
     )
 
+pub returns-then-c-used : goal.returns-then-c-used
+returns-then-c-used c =
+    let J : let a = c.args in Judging a.c.now a.q.now (lent a.c.now c.data_end-to.result) a.frame a.t =
+    judging c.requires c.data_end-to.ensures in
+    let w = sym c.measure.ensures ∙ c.in_ok-reply.ensures.ok_part in
+    let x = sym c.reach.ensures ∙ c.in_ok-reached.ensures.ok_part in
+    let e = sym c.enables.ensures ∙ c.if-not-enables.false in
+    let h = sym c.all_hold.ensures ∙ c.if-not-all_hold.false in
+    no_room J c.args.space w x e c.if-space-reply.false h _ c.cut_size-size.ensures
+    (rw (c.used.ensures, c.resized-after.ensures) at c.if-c-used.true)
+
 pub returns : goal.returns
 returns c =
-    let found : let a = c.args in
-    Found a.c.now a.q.now (lent a.c.now c.data_end-e.result) a.frame
-    a.t c.measure-asked.result c.reach-reached.result c.cut_size-size.result =
-    record {
-      known = c.requires.0;
-      parted = c.requires.1;
-      bytes = data_lent_lem c.requires.0
-          c.data_end-e.ensures;
-      measured = c.measure-asked.ensures;
-      reached = c.reach-reached.ensures;
-      final = c.cut_size-size.ensures;
-    } in
-    let admitted : c.admit-admitted.result
-    ≡ first_row
-    (admits found
-    c.args.space) =
-    rw c.both-resolves.ensures at c.admit-admitted.ensures in
-    let F = found in
-    let g : c.fit.result
-    ≡ first_row
-    (fits F c.args.space) =
-    rw (c.used.ensures, c.resized-after.ensures) at c.fit.ensures in
-    fit_verdict F
-    c.args.space _ (admitted)
-    c.if-admitted-ne0.false _ _ c.find-found.ensures
-    c.if-found-ne0.false g
+    let J : let a = c.args in Judging a.c.now a.q.now (lent a.c.now c.data_end-to.result) a.frame a.t =
+    judging c.requires c.data_end-to.ensures in
+    let w = sym c.measure.ensures ∙ c.in_ok-reply.ensures.ok_part in
+    let x = sym c.reach.ensures ∙ c.in_ok-reached.ensures.ok_part in
+    let e = sym c.enables.ensures ∙ c.if-not-enables.false in
+    let h = sym c.all_hold.ensures ∙ c.if-not-all_hold.false in
+    accepted J c.args.space w x e c.if-space-reply.false h _ c.cut_size-size.ensures
+    (rw (c.used.ensures, c.resized-after.ensures) at c.if-c-used.false)

@@ -19,6 +19,6 @@ copy_part-requires c = rw length-take (omega arith)
 pub returns : goal.returns
 returns c =
     let a = c.args in
-    let n = c.lesser-n in
+    let n = c.min-n in
     c.copy_part.ensures
     ∙ write_near a.d.now a.position n.result a.bytes.now (omega arith) n.ensures

@@ -1,5 +1,6 @@
 -- The writes over data and slack, then the size.
 use native.Mathlib.Omega.{arith}
+use Rattle.std.proofs.Common.{rules}
 use Rattle.octets.specs.Facts.{Octets}
 use Rattle.format.specs.View.{tail_size}
 use Rattle.format.specs.Parts.{parts_of}
@@ -24,7 +25,7 @@ returns c =
     let a = c.args in
     let k = tail_size a.frame.extras in
     let b = a.frame.offset in
-    let o : Octets a.c.now = λ i. omega (arith, c.slice_known-1.given i) in
+    let o : Octets a.c.now = λ i. search rules in
     let L = (c.write_data.ensures b k c.requires.4).turn (formed_laid a.c.now a.frame c.requires.0 o) in
     filled_whole a.c.now _ a.frame a.f c.requires.0 o _ (cut_in a.t.cut) c.requires.3 c.requires.4
     ((c.put_size.ensures b k).turn L) c.requires.2.size

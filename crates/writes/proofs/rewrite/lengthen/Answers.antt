@@ -3,6 +3,7 @@ use mathlib.Core.Path.{◌≡◌, sym, ◌∙◌}
 use Prim.Native.Nat.{◌+◌, ◌-◌}
 use lib.ListN.{length, drop, replicate, drop_of_length-le}
 use native.Mathlib.Omega.{arith}
+use Rattle.std.proofs.Common.{rules}
 use Rattle.octets.specs.Facts.{Octets}
 use Rattle.format.specs.View.{tail_size}
 use Rattle.format.specs.Parts.{parts_of}
@@ -42,7 +43,7 @@ returns c =
     let k = tail_size a.frame.extras in
     let e = data_at + a.f in
     let g : moved_count a.frame.offset a.f ≡ e = moved_up a.frame.offset a.f c.requires.3 in
-    let o : Octets a.c.now = λ i. omega (arith, c.slice_known-1.given i) in
+    let o : Octets a.c.now = λ i. search rules in
     let x = c.lift.ensures.turn (formed_laid a.c.now a.frame c.requires.0 o) in
     let n : length x.bytes ≡ a.f = omega (arith, x.laid.upto) in
     let m : length x.bytes - a.f ≡ 0 = omega arith in

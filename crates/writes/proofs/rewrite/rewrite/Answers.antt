@@ -1,5 +1,6 @@
 -- The three ways that change the size promise the whole; where it stays, the writes alone make it.
 use native.Mathlib.Omega.{arith}
+use Rattle.std.proofs.Common.{rules}
 use Rattle.octets.specs.Facts.{Octets}
 use Rattle.format.specs.View.{tail_size}
 use Rattle.format.specs.Parts.{parts_of}
@@ -25,7 +26,7 @@ returns c =
     let k = tail_size a.frame.extras in
     let m = known_room c.requires.0 in
     let o : Octets a.c.now =
-    λ i. omega (arith, c.slice_known-1.given i) in
+    λ i. search rules in
     let b = a.frame.offset in
     let W = (c.write_data.ensures b k (omega (arith, m.0))).turn (formed_laid a.c.now a.frame c.requires.0 o) in
     filled_whole a.c.now _ a.frame a.f c.requires.0 o _ (cut_in a.t.cut) (omega arith) (omega (arith, m.0))

@@ -1,5 +1,6 @@
 -- The size, then what is freed, then the writes.
 use native.Mathlib.Omega.{arith}
+use Rattle.std.proofs.Common.{rules}
 use Rattle.octets.specs.Facts.{Octets}
 use Rattle.format.specs.View.{tail_size}
 use Rattle.format.specs.Parts.{parts_of}
@@ -30,7 +31,7 @@ returns c =
     let k = tail_size a.frame.extras in
     let b = a.frame.offset in
     let m = known_room c.requires.0 in
-    let o : Octets a.c.now = λ i. omega (arith, c.slice_known-1.given i) in
+    let o : Octets a.c.now = λ i. search rules in
     let L = (c.put_size.ensures b k).turn (formed_laid a.c.now a.frame c.requires.0 o) in
     let F = (c.free.ensures b k m.0).turn L in
     freed_whole a.c.now _ a.frame a.f c.requires.0 o _ (cut_in a.t.cut) c.requires.3

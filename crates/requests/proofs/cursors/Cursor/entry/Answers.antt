@@ -5,6 +5,5 @@ use Rattle.requests.proofs.cursors.Cursor.entry.Goals as goal
 pub returns : goal.returns
 returns c =
     let a = c.args in
-    let s = c.i32_at-offset in
-    entry_made a.self.at a.stride a.q.now s.result c.u32_at-count.result (record { sfits = s.type_inv })
-    s.ensures c.u32_at-count.ensures
+    entry_made a.self.at a.stride a.q.now c.i32_at.result c.u32_at.result (record { sfits = c.i32_at.type_inv })
+    c.i32_at.ensures c.u32_at.ensures

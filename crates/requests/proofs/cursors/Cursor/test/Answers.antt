@@ -4,4 +4,4 @@ use Rattle.requests.proofs.cursors.Cursor.test.Goals as goal
 
 pub returns : goal.returns
 unfolding entry_opcode entry_specimen
-returns c = rw (c.entry-entry.ensures, c.u16_at-specimen.ensures)
+returns c = rw (c.entry-entry.ensures, c.u16_at.ensures)
