@@ -13,7 +13,7 @@ returns-then-all c =
     let r : c.all.result ≡ list_all all_zero c.as_chunks.result.0.now =
     all_from_yields_List all_zero _ _ c.all.result c.all.ensures.ran (YieldsList-from_slice c.as_chunks.result.0.now (cc))
     (λ x b q k. search (rules, tests)) in
-    c.zero_part.ensures ∙ ap all_zero c.as_chunks.ensures.back
+    c.zero_part-then-all.ensures ∙ ap all_zero c.as_chunks.ensures.back
     ∙ zero_blocks 64 (length s / 64) s true (sym c.if-all.true ∙ r ∙ ap (list_all all_zero) c.as_chunks.ensures.front)
 
 pub returns-else-all : goal.returns-else-all
