@@ -8,7 +8,7 @@ use mathlib.Core.Option.{Option as Maybe}
 use Rattle.std.specs.Prelude.{Option, Some, None}
 use Rattle.std.specs.List.{find, range_with_len}
 use Rattle.std.specs.Option.{option_map}
-use Prim.Native.Nat.{ℕ, suc, ◌+◌, ◌-◌, ◌*◌, ◌≤◌, ◌<◌}
+use Prim.Native.Nat.{ℕ, zero, suc, ◌+◌, ◌-◌, ◌*◌, ◌≤◌, ◌<◌}
 use native.Mathlib.Nat.{zero-add, add_assoc}
 use native.Mathlib.Omega.{arith}
 use lib.Dec.{ltb}
@@ -22,7 +22,7 @@ use Rattle.format.specs.Layout.{record_size, extras_at, expiry_at, expiry_of}
 use Rattle.octets.specs.Numbers.{number, number_at}
 use Rattle.octets.proofs.ListLaws.{part_part}
 use Rattle.format.specs.Container.{held}
-use Rattle.format.proofs.WellFormed.{length-records, length_leases, record_at_lem}
+use Rattle.format.proofs.WellFormed.{length-records, length_leases, records-add, record_at_lem}
 use Rattle.rules.specs.Leasing.{first_of, with_last, trim, present}
 use Rattle.rules.proofs.LeaseLaws.{length-trim}
 use Rattle.format.specs.Judging.{Known}
@@ -143,6 +143,37 @@ unfolding present
 present-append [] b = sym (zero-add (present b))
 present-append (r ∷ a) b = rw (present-append a b) (sym (add_assoc (cond (held r) 1 0) (present a) (present b)))
 
+pub present_more : (n p : ℕ) (c : List ℕ) (t : Bool) → 0 < n → held (take record_size (drop p c)) ≡ t →
+    present (records n p c) ≡ cond t 1 0 + present (records (n - 1) (p + record_size) c)
+unfolding present records
+present_more zero p c t h e = absurd (omega arith)
+present_more (suc n) p c t h e =
+    let k : suc n - 1 ≡ n = omega arith in
+    rw (e, k)
+
+pub present-none : (n p : ℕ) (c : List ℕ) → n ≤ 0 → present (records n p c) ≡ 0
+unfolding present records
+present-none zero p c h = refl
+present-none (suc n) p c h = absurd (omega arith)
+
+-- All n places, as those from place 0 on.
+pub present_first : (n p : ℕ) (c : List ℕ)
+    → present (records n p c) ≡ 0 + present (records (n - 0) (p + record_size * 0) c)
+present_first n p c =
+    let k : n - 0 ≡ n = omega arith in
+    let m : p + record_size * 0 ≡ p = omega arith in
+    rw (k, m) (sym (zero-add (present (records n p c))))
+
+-- Place i of n, and those behind it.
+pub present_next : (n i p : ℕ) (c : List ℕ) (t : Bool) → i < n
+    → held (take record_size (drop (p + record_size * i) c)) ≡ t
+    → present (records (n - i) (p + record_size * i) c)
+    ≡ cond t 1 0 + present (records (n - (i + 1)) (p + record_size * (i + 1)) c)
+present_next n i p c t h e =
+    let k : n - i - 1 ≡ n - (i + 1) = omega arith in
+    let m : p + record_size * i + record_size ≡ p + record_size * (i + 1) = omega arith in
+    present_more (n - i) (p + record_size * i) c t (omega arith) e ∙ rw (k, m)
+
 pub present_most : (ls : List (List ℕ)) → present ls ≤ length ls
 unfolding present
 present_most [] = omega arith
@@ -181,6 +212,30 @@ pub trim-empty : (a : List (List ℕ)) (r : List ℕ) → held r ≡ false → t
 unfolding trim with_last
 trim-empty [] r h = rw h
 trim-empty (x ∷ a) r h = ap (with_last x) (trim-empty a r h)
+
+module _ (n p : ℕ) (c : List ℕ) (h : 0 < n) where
+  abbrev last : List ℕ
+  last = take record_size (drop (p + record_size * (n - 1)) c)
+
+  -- the last of n places, taken off
+  records_last : records n p c ≡ records (n - 1) p c ++ (last ∷ [])
+  unfolding records
+  records_last =
+      let e : n ≡ n - 1 + 1 = omega arith in
+      ap (λ (m : ℕ). records m p c) e ∙ records-add (n - 1) 1 p c
+
+  pub kept_all : held last ≡ true → length (trim (records n p c)) ≡ n
+  kept_all e =
+      ap length (ap trim records_last ∙ trim-held (records (n - 1) p c) last e ∙ sym records_last)
+      ∙ length-records n p c
+
+  pub kept_fewer : held last ≡ false → trim (records n p c) ≡ trim (records (n - 1) p c)
+  kept_fewer e = ap trim records_last ∙ trim-empty (records (n - 1) p c) last e
+
+pub kept-none : (n p : ℕ) (c : List ℕ) → n ≤ 0 → length (trim (records n p c)) ≡ 0
+unfolding records trim
+kept-none zero p c h = refl
+kept-none (suc n) p c h = absurd (omega arith)
 
 pub kept_few : (n p : ℕ) (c : List ℕ) → length (trim (records n p c)) ≤ n
 kept_few n p c = omega (arith, length-trim (records n p c), length-records n p c)

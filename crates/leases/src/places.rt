@@ -21,11 +21,13 @@ fn count_held(c: &[u8], from: usize, n: usize) -> usize
     requires { (from + record_size * n ≤ length c.now) × (n ≤ lease_limit) }
     ensures { result ≡ present (records n from c.now) }
 {
-    let e = from + RECORD_SIZE * n;
-    c[from..e]
-        .chunks_exact(RECORD_SIZE)
-        .filter(|r| is_held(r, 0))
-        .count()
+    let mut count = 0;
+    for i in 0..n {
+        if is_held(c, from + RECORD_SIZE * i) {
+            count += 1;
+        }
+    }
+    count
 }
 
 // How many of the n places from p on are left when the empty ones at the tail are dropped.
@@ -33,11 +35,12 @@ pub(crate) fn kept(c: &[u8], from: usize, n: usize) -> usize
     requires { (from + record_size * n ≤ length c.now) × (n ≤ lease_limit) }
     ensures { result ≡ length (trim (records n from c.now)) }
 {
-    let e = from + RECORD_SIZE * n;
-    c[from..e]
-        .chunks_exact(RECORD_SIZE)
-        .rposition(|r| is_held(r, 0))
-        .map_or(0, |i| i + 1)
+    for i in (0..n).rev() {
+        if is_held(c, from + RECORD_SIZE * i) {
+            return i + 1;
+        }
+    }
+    0
 }
 
 // The lease places of a well-formed container: the four, then the extras.
@@ -84,7 +87,8 @@ impl<'a> Places<'a> {
         }
         let a = p + field;
         let e = a + SECRET_SIZE;
-        octets::strings::same(&self.c[a..e], token)
+        // The token's length is named here, so that the compiler knows both.
+        octets::strings::same(&self.c[a..e], &token[..SECRET_SIZE])
     }
 
     // The first lease with that token.

@@ -1,17 +1,27 @@
--- The chunks are the records. Assumes nothing.
-use mathlib.Core.Path.{◌∙◌}
+-- The invariant: the leases counted and those in the places left are all. Assumes nothing.
+use mathlib.Core.Path.{sym, ◌∙◌}
+use mathlib.Core.Bool.{true, false}
+use Prim.Native.Nat.{◌+◌, ◌-◌, ◌*◌}
 use native.Mathlib.Omega.{arith}
-use Rattle.std.proofs.Common.{rules}
-use Rattle.std.proofs.lemmas.Iterator.Consumers.{count_from_yields_List, YieldsList-from_filter, YieldsList-at}
-use Rattle.format.specs.Container.{held}
-use Rattle.leases.proofs.ChunkLaws.{held-front, present-filter}
-use Rattle.format.proofs.ChunkLaws.{YieldsList-from_records}
+use Rattle.format.specs.Layout.{record_size}
+use Rattle.leases.proofs.PlaceLaws.{present-none, present_first, present_next}
 use Rattle.leases.proofs.places.count_held.Goals as goal
+use Rattle.leases.proofs.places.count_held.Goals.{then-is_held, else-is_held}
+
+pub loop-i-init : goal.loop-i-init
+loop-i-init c = let a = c.args in (omega arith, present_first a.n a.from a.c.now)
+
+pub loop-i-preserved : goal.loop-i-preserved
+loop-i-preserved c =
+    let a = c.args in
+    let more = present_next a.n c.loop-i.i a.from a.c.now in
+    let h = sym c.is_held.ensures in
+    elim c.if-is_held.branch [
+      | then-is_held w ↦ let m = more true (omega arith) (h ∙ w.if-is_held.true) in (omega arith, omega arith)
+      | else-is_held w ↦ let m = more false (omega arith) (h ∙ w.if-is_held.false) in (omega arith, omega arith)
+    ]
 
 pub returns : goal.returns
 returns c =
     let a = c.args in
-    count_from_yields_List c.filter.result c.count.result c.count.ensures.ran
-    (YieldsList-from_filter _ held (YieldsList-at c.filter.ensures.source (YieldsList-from_records a.n _ a.from a.c.now
-    (omega arith) (omega arith) c.chunks_exact.ensures.rest c.chunks_exact.ensures.size)) c.filter.ensures.closure
-    (λ x b q k. search (rules, held-front))) ∙ present-filter _
+    omega (arith, present-none (a.n - c.loop-i.i) (a.from + record_size * c.loop-i.i) a.c.now (omega arith))
