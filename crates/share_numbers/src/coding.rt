@@ -7,12 +7,17 @@ ghost use Rattle.share_numbers.specs.Coding.{coding_ok, segment_ok};
 
 use share_format::header::Edition;
 
-// The least multiple of k at or above n, where it fits 64 bits.
+// The least multiple of k at or above n, where it fits 64 bits. One division: the library's own method makes two.
 pub fn least_multiple(k: u64, n: u64) -> Option<u64>
     requires { 0 < k }
     ensures { SomeIff result (Fits64 (least_multiple k n)) (least_multiple k n) }
 {
-    n.checked_next_multiple_of(k)
+    let rest = n % k;
+    if rest == 0 {
+        Some(n)
+    } else {
+        n.checked_add(k - rest)
+    }
 }
 
 // Row 23.

@@ -1,16 +1,16 @@
--- The library's own.
-use Rattle.std.specs.Prelude.{ℕ, ◌+◌, ◌-◌, ◌%◌, ◌<◌, Option, Some, None, SomeIff}
-use Rattle.share_format.proofs.MultipleLaws.{least-next}
+-- Where n is no multiple, the least one above it is n and what its remainder lacks of k.
+use mathlib.Core.Path.{sym}
+use native.Mathlib.Omega.{arith}
+use Rattle.share_format.proofs.MultipleLaws.{least_whole, least_more}
 use Rattle.share_numbers.proofs.coding.least_multiple.Goals as goal
 
-same_iff : (r : Option ℕ) (k m v : ℕ) → 0 < k → SomeIff r ((0 < k) × (m < 18446744073709551616)) v
-    → SomeIff r (m < 18446744073709551616) v
-same_iff None k m v p h = λ q. h (p, q)
-same_iff (Some x) k m v p h = (h.0.1, h.1)
-
-pub returns : goal.returns
-returns c =
+pub returns-then-rest-eq0 : goal.returns-then-rest-eq0
+returns-then-rest-eq0 c =
     let a = c.args in
-    let m : ℕ = a.n + (a.k - a.n % a.k) % a.k in
-    rw (least-next a.k a.n c.requires)
-    (same_iff c.checked_next_multiple_of.result a.k m m c.requires c.checked_next_multiple_of.ensures)
+    let e = least_whole a.k a.n c.if-rest-eq0.true in
+    (rw e (omega arith), sym e)
+
+pub returns-else-rest-eq0 : goal.returns-else-rest-eq0
+returns-else-rest-eq0 c =
+    let a = c.args in
+    rw (least_more a.k a.n c.requires c.if-rest-eq0.false) c.checked_add.ensures
