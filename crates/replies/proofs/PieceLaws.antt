@@ -175,22 +175,50 @@ module _ {p stride : ℕ} {q d : List ℕ} {x : Entry} {r : ℕ} (E : Reading p 
 
 -- ---- measuring
 -- What is left of the table t, with the length that has been measured so far.
-pub record Measuring (t : Table) (q d : List ℕ) (sum at left : ℕ) : Type 0 where
+pub record Summing (t : Table) (q d : List ℕ) (sum at left : ℕ) : Type 0 where
   pub reaches : at + t.stride * left ≤ length q
-  pub resolved : resolve_from t.stride left at q (length d) ≡ resolve_from t.stride t.count t.first.at q (length d)
   pub summed : sum + length (reply_of (pieces_from t.stride left at q d)) ≡ length (reply_of (pieces_in t q d))
 
-module _ {t : Table} {q d : List ℕ} {sum at left : ℕ} (M : Measuring t q d sum at left) where
-  measuring_sum : (h : 0 < left)
+module _ {t : Table} {q d : List ℕ} {sum at left : ℕ} (S : Summing t q d sum at left) where
+  summing_sum : (h : 0 < left)
       → let s = piece d (entry_offset at q) (entry_count at q) in
       let rest = pieces_from t.stride (left - 1) (at + t.stride) q d in
       sum + (length_size + length s) + length (reply_of rest) ≡ length (reply_of (pieces_in t q d))
-  measuring_sum h =
+  summing_sum h =
       let s = piece d (entry_offset at q) (entry_count at q) in
       let rest = pieces_from t.stride (left - 1) (at + t.stride) q d in
       let e = ap (λ (ps : List (List ℕ)). length (reply_of ps)) (pieces_next t.stride left at q d h) in
-      omega (arith, M.summed, reply_cons s rest)
+      omega (arith, S.summed, reply_cons s rest)
 
+  module _ (h : 0 < left) {x : Entry} {p : ℕ} (E : Reading at t.stride q d x p) (s : List ℕ)
+      (is : s ≡ take x.count (drop p d)) where
+    summing_piece : length s ≡ length (piece d (entry_offset at q) (entry_count at q))
+    summing_piece = ap length (is ∙ reading-piece E)
+
+    -- The lengths add up without wrapping.
+    pub summing_bound : TableIn q t → length d ≤ limit → sum + (length_size + length s) ≤ (length_size + limit) * entry_limit
+    summing_bound T l =
+        omega (arith, summing_sum h, summing_piece, reply_most t.stride t.count t.first.at q d l, T.few)
+
+    pub summing_next : Summing t q d (sum + (length_size + length s)) x.next.at (left - 1)
+    summing_next =
+        rw (reading_next E) (record {
+          reaches = omega (arith, S.reaches, times_next t.stride left at h);
+          summed = rw summing_piece (summing_sum h);
+        })
+
+  pub summing_end : left ≤ 0 → sum ≡ length (reply_of (pieces_in t q d))
+  summing_end h =
+      let e : length (reply_of (pieces_from t.stride left at q d)) ≡ 0 =
+      ap (λ (ps : List (List ℕ)). length (reply_of ps)) (pieces_end t.stride left at q d h) ∙ reply_none in
+      omega (arith, S.summed)
+
+-- The same where every offset so far resolves.
+pub record Measuring (t : Table) (q d : List ℕ) (sum at left : ℕ) : Type 0 where
+  pub sums : Summing t q d sum at left
+  pub resolved : resolve_from t.stride left at q (length d) ≡ resolve_from t.stride t.count t.first.at q (length d)
+
+module _ {t : Table} {q d : List ℕ} {sum at left : ℕ} (M : Measuring t q d sum at left) where
   module _ (h : 0 < left) (o : Octets q) {x : Entry} (e : x ≡ entry_at at t.stride q) {r : Option ℕ}
       (f : r ≡ resolved_of (to_z w32 (of_z w32 x.offset)) (length d)) where
     place_is : r ≡ resolved_of (entry_offset at q) (length d)
@@ -210,30 +238,23 @@ module _ {t : Table} {q d : List ℕ} {sum at left : ℕ} (M : Measuring t q d s
       measuring_read : Reading at t.stride q d x p
       measuring_read = record { entry = e; place = sym found_at.1 }
 
-      measuring_piece : length s ≡ length (piece d (entry_offset at q) (entry_count at q))
-      measuring_piece = ap length (is ∙ reading-piece measuring_read)
-
-      -- The lengths add up without wrapping.
       pub measuring_bound : TableIn q t → length d ≤ limit
           → sum + (length_size + length s) ≤ (length_size + limit) * entry_limit
-      measuring_bound T l =
-          omega (arith, measuring_sum h, measuring_piece, reply_most t.stride t.count t.first.at q d l, T.few)
+      measuring_bound T l = summing_bound M.sums h measuring_read s is T l
 
       pub measuring_next : Measuring t q d (sum + (length_size + length s)) x.next.at (left - 1)
-      measuring_next =
-          rw (reading_next measuring_read) (record {
-            reaches = omega (arith, M.reaches, times_next t.stride left at h);
-            resolved = rw found_at.0 at (sym (resolve_next t.stride left at q d h)) ∙ M.resolved;
-            summed = rw measuring_piece (measuring_sum h);
-          })
+      measuring_next = record {
+        sums = summing_next M.sums h measuring_read s is;
+        resolved =
+            rw (reading_next measuring_read)
+            (rw found_at.0 at (sym (resolve_next t.stride left at q d h)) ∙ M.resolved);
+      }
 
   pub measuring_end : left ≤ 0 → Some sum ≡ measured_of t q d
   measuring_end h =
       let a : resolve_from t.stride t.count t.first.at q (length d) ≡ true =
       sym M.resolved ∙ resolve-end t.stride left at q d h in
-      let e : length (reply_of (pieces_from t.stride left at q d)) ≡ 0 =
-      ap (λ (ps : List (List ℕ)). length (reply_of ps)) (pieces_end t.stride left at q d h) ∙ reply_none in
-      let c : sum ≡ length (reply_of (pieces_in t q d)) = omega (arith, M.summed) in
+      let c : sum ≡ length (reply_of (pieces_in t q d)) = summing_end M.sums h in
       rw (a, ← c)
 
 -- What it tells: whether every offset resolves, and the length of the reply.

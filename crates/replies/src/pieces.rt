@@ -2,10 +2,11 @@
 ghost use Rattle.std.specs.Prelude.{◌≡◌, ◌≤◌, length, take, drop};
 ghost use Rattle.format.specs.Layout.{limit};
 ghost use Rattle.requests.specs.Forms.{TableIn};
-ghost use Rattle.replies.specs.Pieces.{measured_of};
+ghost use Rattle.rules.specs.Testing.{reply_of};
+ghost use Rattle.replies.specs.Pieces.{measured_of, pieces_in};
 
 use requests::forms::Table;
-use requests::offsets::resolve;
+use requests::offsets::{position, resolve};
 
 // The width of a piece's length in a reply.
 pub const LENGTH_SIZE: usize = 4;
@@ -33,4 +34,20 @@ pub fn measure(d: &[u8], q: &[u8], t: Table) -> Option<usize>
         cursor = entry.next;
     }
     Some(length)
+}
+
+// The length of the reply, whatever its offsets name: one that names no position counts as 0, as in the rules.
+pub fn reply_length(d: &[u8], q: &[u8], t: Table) -> usize
+    requires { TableIn q.now t × (length d.now ≤ limit) }
+    ensures { result ≡ length (reply_of (pieces_in t q.now d.now)) }
+{
+    let mut cursor = t.first;
+    let mut sum = 0;
+    for _ in 0..t.count {
+        let entry = cursor.entry(q, t.stride);
+        let found = piece(d, position(entry.offset, d.len()), entry.count).len();
+        sum += LENGTH_SIZE + found;
+        cursor = entry.next;
+    }
+    sum
 }

@@ -240,35 +240,42 @@ module _ {q : List ℕ} {ws : List Write} {size v at after : ℕ} (R : Reaching 
   unfolding writes_resolve placed size_all
   reaching_end h = rw (none_left v at R.body q h) at R.reached
 
--- ---- the loop over the gaps
--- With the end of the last gap so far, the writes that are left leave that of all of them, ws.
-pub record Baring (q : List ℕ) (ws : List Write) (size v at after gap : ℕ) : Type 0 where
+-- ---- the walk whatever the offsets name
+-- With the size and the end of the last gap so far, the writes that are left lead to the size and leave the last gap of
+-- all of them, ws.
+pub record Walking (q : List ℕ) (ws : List Write) (size v at after gap : ℕ) : Type 0 where
   pub body : ℕ
   pub rest : Rest q v at body
   pub small : after ≤ most_on_the_way size body
+  pub sized : size_all (placed (writes_from v at body q) after) after ≡ size_all (placed ws size) size
   pub bared : last_gap (placed (writes_from v at body q) after) after gap ≡ last_gap (placed ws size) size size
 
-pub baring_start : {q : List ℕ} (t : Parted) (size v : ℕ) → PartedIn q t → v ≡ t.writes.count
-    → Baring q (writes_in t q) size v t.writes.first.at size size
-baring_start t size v k n =
-    rw n (record { body = t.bodies.at; rest = rest_start _ t k; small = omega arith; bared = refl })
+pub walking_start : {q : List ℕ} (t : Parted) (size v : ℕ) → PartedIn q t → v ≡ t.writes.count
+    → Walking q (writes_in t q) size v t.writes.first.at size size
+walking_start t size v k n =
+    rw n (record { body = t.bodies.at; rest = rest_start _ t k; small = omega arith; sized = refl; bared = refl })
 
-module _ {q : List ℕ} {ws : List Write} {size v at after gap : ℕ} (B : Baring q ws size v at after gap) where
-  pub baring_next : {e : Entry} {p : ℕ} → Taken q v at B.body after e p → (next behind w : ℕ)
+module _ {q : List ℕ} {ws : List Write} {size v at after gap : ℕ} (W : Walking q ws size v at after gap) where
+  pub walking_next : {e : Entry} {p : ℕ} → Taken q v at W.body after e p → (next behind w : ℕ)
       → next ≡ grow after p e.count → behind ≡ gap_end gap after p e.count → suc w ≡ v
-      → Baring q ws size w e.next.at next behind
-  baring_next K next behind w h k n =
+      → Walking q ws size w e.next.at next behind
+  walking_next K next behind w h k n =
       let m : w ≡ v - 1 = omega arith in
       rw m (record {
         body = _;
         rest = entry_rest K;
-        small = rw h (entry_small K size B.small);
-        bared = rw (h, k) (sym (entry_gap K gap) ∙ B.bared);
+        small = rw h (entry_small K size W.small);
+        sized = rw h (sym (entry_size_lem K) ∙ W.sized);
+        bared = rw (h, k) (sym (entry_gap K gap) ∙ W.bared);
       })
 
-  pub baring_end : v ≤ 0 → gap ≡ last_gap (placed ws size) size size
+  pub walking_sized : v ≤ 0 → after ≡ size_all (placed ws size) size
+  unfolding placed size_all
+  walking_sized h = rw (none_left v at W.body q h) at W.sized
+
+  pub walking_bared : v ≤ 0 → gap ≡ last_gap (placed ws size) size size
   unfolding placed last_gap
-  baring_end h = rw (none_left v at B.body q h) at B.bared
+  walking_bared h = rw (none_left v at W.body q h) at W.bared
 
 -- ---- the loop that writes
 -- The writes that are left, put into the present data d, give what all of them, ws, give in the first data a.

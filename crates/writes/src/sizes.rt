@@ -1,10 +1,10 @@
 // Sizes before anything is written: a size that exists only on the way is never materialised.
 ghost use Rattle.std.specs.Prelude.{◌≡◌, ◌≤◌, ◌<◌};
 ghost use Rattle.format.specs.Layout.{limit};
-ghost use Rattle.rules.specs.Writing.{grow};
-ghost use Rattle.rules.specs.Sizes.{cut_size};
+ghost use Rattle.rules.specs.Writing.{grow, placed};
+ghost use Rattle.rules.specs.Sizes.{cut_size, size_all};
 ghost use Rattle.requests.specs.Forms.{PartedIn, writes_in, cut_in};
-ghost use Rattle.writes.specs.Sizes.{gap_end, reached_by, bare_by};
+ghost use Rattle.writes.specs.Sizes.{gap_end, last_gap, reached_by, bare_by};
 
 use requests::cursors::ENTRY_SIZE;
 use requests::forms::Parted;
@@ -48,11 +48,19 @@ pub fn reach(q: &[u8], t: Parted, size: usize) -> Option<usize>
     Some(after)
 }
 
-// How many of the bytes that the data grows by, to f bytes, must be cleared: the writes fill the others, which is all
-// behind the last gap that they leave on the way.
-pub(crate) fn bare(q: &[u8], t: Parted, size: usize, f: usize) -> usize
-    requires { PartedIn q.now t × (size ≤ limit) × (size ≤ f) }
-    ensures { result ≡ bare_by (writes_in t q.now) size f }
+// What the writes lead to on the way: the size after them, and where the last gap ends that they leave, behind which
+// they cover all that they add.
+#[derive(Clone, Copy)]
+struct Walked {
+    size: usize,
+    gap: usize,
+}
+
+// The table of the writes, whatever its offsets name: one that names no position counts as 0, as in the rules.
+fn walk(q: &[u8], t: Parted, size: usize) -> Walked
+    requires { PartedIn q.now t × (size ≤ limit) }
+    ensures size { result.size ≡ size_all (placed (writes_in t q.now) size) size }
+    ensures gap { result.gap ≡ last_gap (placed (writes_in t q.now) size) size size }
 {
     let mut cursor = t.writes.first;
     let mut after = size;
@@ -64,7 +72,23 @@ pub(crate) fn bare(q: &[u8], t: Parted, size: usize, f: usize) -> usize
         after = grown(after, place, entry.count);
         cursor = entry.next;
     }
-    gap.min(f) - size
+    Walked { size: after, gap }
+}
+
+// The size after the writes, whatever their offsets name.
+pub fn size_reached(q: &[u8], t: Parted, size: usize) -> usize
+    requires { PartedIn q.now t × (size ≤ limit) }
+    ensures { result ≡ size_all (placed (writes_in t q.now) size) size }
+{
+    walk(q, t, size).size
+}
+
+// How many of the bytes that the data grows by, to f bytes, must be cleared: the writes fill the others.
+pub(crate) fn bare(q: &[u8], t: Parted, size: usize, f: usize) -> usize
+    requires { PartedIn q.now t × (size ≤ limit) × (size ≤ f) }
+    ensures { result ≡ bare_by (writes_in t q.now) size f }
+{
+    walk(q, t, size).gap.min(f) - size
 }
 
 // The size after the cut, if any.
