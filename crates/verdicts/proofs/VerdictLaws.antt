@@ -18,7 +18,7 @@ use Rattle.rules.specs.declared.outcomes.Refusal.TheVariants.{BeforeStart, Wrong
 use Rattle.verdicts.specs.declared.writing.Due.{Due}
 use Rattle.verdicts.specs.declared.writing.Verdict.{Verdict}
 use Rattle.verdicts.specs.declared.writing.Verdict.TheVariants.{TestFalse, Accepted}
-use Rattle.verdicts.specs.Writing.{Decided, Tells, due_of, verdict_of}
+use Rattle.verdicts.specs.Writing.{Decided, Tells, due_of, lengths_of, verdict_of}
 use Rattle.format.specs.Judging.{Known}
 use Rattle.rules.specs.Requests.{Request, Write, writes_from, entry_count, entry_offset, entry_size, sum_from}
 use Rattle.octets.specs.Rows.{first_row, row}
@@ -172,6 +172,11 @@ module _ {c q d : List ℕ} {f : Frame} {t : Parted} (J : Judging c q d f t) whe
   module _ (n : ℕ) where
     abbrev Told : Result Verdict Refusal → Type 0
     Told v = Tells v (verdict_of (parts_of c) asks n)
+
+    pub both_are : (m r s : ℕ) → m ≡ reply → r ≡ reached → s ≡ cut_size (cut_in t.cut) r
+        → ◌≡◌ {A = Due} (record { reply = m; size = s }) (lengths_of (verdict_of (parts_of c) asks n))
+    both_are m r s i k z =
+        sym (ap lengths_of (judged_is m s n (sym i) (ap (cut_size (cut_in t.cut)) (sym k) ∙ sym z)))
 
     pub undue_tests : measured_of t.tests q d ≡ None → due_of (verdict_of (parts_of c) asks n) ≡ None
     unfolding first_row

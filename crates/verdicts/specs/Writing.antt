@@ -28,9 +28,13 @@ verdict_of p w n = record {
   size = length (after p w).bytes;
 }
 
+-- Both lengths, whatever the number.
+abbrev pub lengths_of : Judgement → Due
+lengths_of j = record { reply = j.reply; size = j.size }
+
 -- What is due by the lengths: none where row 4 applies, since then they mean nothing.
 abbrev pub due_of : Judgement → Option Due
-due_of j = cond (eqb j.number 4) None (Some (record { reply = j.reply; size = j.size }))
+due_of j = cond (eqb j.number 4) None (Some (lengths_of j))
 
 -- The outcome's number for each case of a verdict.
 abbrev pub verdict_number : Result Verdict Refusal → ℕ

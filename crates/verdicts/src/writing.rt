@@ -8,7 +8,7 @@ ghost use Rattle.format.specs.Judging.{Known};
 ghost use Rattle.rules.specs.Outcomes.{after};
 ghost use Rattle.requests.specs.Cursors.{bytes_from};
 ghost use Rattle.requests.specs.Forms.{BytesIn, PartedIn, write_in};
-ghost use Rattle.verdicts.specs.Writing.{verdict_of, due_of, Tells, Decided};
+ghost use Rattle.verdicts.specs.Writing.{verdict_of, lengths_of, due_of, Tells, Decided};
 
 use format::layout::{DATA_AT, ENABLER_AT, Frame, SECRET_SIZE, SIZE_AT};
 use requests::cursors::Cursor;
@@ -48,6 +48,19 @@ pub fn lengths(c: &[u8], frame: Frame, q: &[u8], t: Parted) -> Option<Due>
     let reached = writes::sizes::reach(q, t, frame.size)?;
     let size = writes::sizes::cut_size(reached, t.cut);
     Some(Due { reply, size })
+}
+
+// Both lengths, whatever refuses the request: an offset that names no position counts as 0, as in the rules.
+pub fn both_lengths(c: &[u8], frame: Frame, q: &[u8], t: Parted) -> Due
+    requires { Known c.now frame × PartedIn q.now t }
+    ensures { result ≡ lengths_of (verdict_of (parts_of c.now) (write_in t q.now) 0) }
+{
+    let to = frame.data_end();
+    let reached = writes::sizes::size_reached(q, t, frame.size);
+    Due {
+        reply: replies::pieces::reply_length(&c[DATA_AT..to], q, t.tests),
+        size: writes::sizes::cut_size(reached, t.cut),
+    }
 }
 
 // The verdict. The room is judged on the final size: a size on the way to the cut is a number, never bytes.
