@@ -9,7 +9,7 @@ ghost use Rattle.lists.specs.Tables.{rows_of, Ready};
 ghost use Rattle.listed_slot.specs.Following.{followed_by};
 
 use lists::list::ROW_LIMIT;
-use lists::rows::Rows;
+use lists::rows::{Rows, TABLE_SIZE};
 use requests::cursors::ENTRY_SIZE;
 use requests::forms::Parted;
 use requests::offsets::position;
@@ -56,7 +56,11 @@ pub(crate) fn write_list(l: &mut [u8], q: &[u8], t: Parted, size: usize) -> bool
         (followed_by (writes_in t q.now) (cut_in t.cut) size (stretches_of l.old)))
         l.old }
 {
-    let mut rows = Rows::load(l);
+    let mut rows = Rows {
+        bytes: [0; TABLE_SIZE],
+        count: 0,
+    };
+    rows.load(l);
     follow(&mut rows, q, t, size);
     let count = rows.len();
     if ROW_LIMIT < count {

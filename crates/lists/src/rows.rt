@@ -52,17 +52,13 @@ pub struct Rows {
 impl Rows {
     ghost use Rattle.lists.specs.Tables.{table_rows, rows_of, Pushed, Ready, Ordered};
 
-    // The rows of a list.
-    pub fn load(l: &[u8]) -> Rows
+    // Becomes the rows of a list. In place, since what is handed back by value stands on the stack twice.
+    pub fn load(&mut self, l: &[u8])
         requires { (length l.now ≡ list_length) × (row_count l.now ≤ row_limit) }
-        ensures { rows_of result ≡ stretches_of l.now }
+        ensures { rows_of self.new ≡ stretches_of l.now }
     {
-        let mut bytes = [0; TABLE_SIZE];
-        octets::moves::copy_part(&mut bytes, 0, &l[ROWS_AT..]);
-        Rows {
-            bytes,
-            count: octets::numbers::u32_at(l, 0) as usize,
-        }
+        octets::moves::copy_part(&mut self.bytes, 0, &l[ROWS_AT..]);
+        self.count = octets::numbers::u32_at(l, 0) as usize;
     }
 
     // The rows as a list.

@@ -2,5 +2,5 @@
 use Rattle.listed_slot.proofs.FollowingLaws.{few_listed}
 use Rattle.listed_slot.proofs.following.write_list.Goals as goal
 
-pub load-rows-requires : goal.load-rows-requires
-load-rows-requires c = (c.requires.1.1.0, few_listed _ c.requires.1.1.1)
+pub load-requires : goal.load-requires
+load-requires c = (c.requires.1.1.0, few_listed _ c.requires.1.1.1)
