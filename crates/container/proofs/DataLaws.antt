@@ -9,7 +9,7 @@ use lib.ListN.{length, take, drop}
 use Rattle.format.specs.declared.layout.Frame.{Frame}
 use Rattle.std.specs.Prelude.{Result, Ok, Err}
 use Rattle.std.specs.Result.{result_unwrap_or}
-use Rattle.std.specs.declared.ops.Range.{Range}
+use Rattle.container.specs.declared.data.Extent.{Extent}
 use Rattle.format.specs.declared.judging.Flaw.{Flaw}
 use Rattle.format.specs.declared.judging.Flaw.TheVariants.{BadLength, Malformed}
 use Rattle.container.specs.Data.{Lent, beyond, lent_as, lent_of, data_lent}
@@ -65,22 +65,22 @@ pub lent-bytes : (c : List ℕ) (l : Lent) → l ≡ lent_of c → take (l.to - 
 lent-bytes c l e = rw e (lends c).bytes
 
 -- What `find_data` answers, or the empty stretch at the start: it lies inside, and is the data.
-pub record Stretch (c : List ℕ) (r : Range ℕ) : Type 0 where
-  pub from : r.start ≡ (lent_of c).from
-  pub rises : r.start ≤ r.end
-  pub fits : r.end ≤ length c
-  pub bytes : take (r.end - r.start) (drop r.start c) ≡ data_lent c
+pub record Stretch (c : List ℕ) (r : Extent) : Type 0 where
+  pub from : r.from ≡ (lent_of c).from
+  pub rises : r.from ≤ r.to
+  pub fits : r.to ≤ length c
+  pub bytes : take (r.to - r.from) (drop r.from c) ≡ data_lent c
 
-pub stretch : (c : List ℕ) (o : Result (Range ℕ) Flaw) → lent_as o ≡ lent_of c → (r : Range ℕ) →
-    r ≡ result_unwrap_or o (record { start = 0; end = 0 }) → Stretch c r
-stretch c o e r w = go (r.start) (r.end) (ap (λ (l : Lent). l.from) (as_lent o e w)) (ap (λ (l : Lent). l.to) (as_lent o e w))
+pub stretch : (c : List ℕ) (o : Result Extent Flaw) → lent_as o ≡ lent_of c → (r : Extent) →
+    r ≡ result_unwrap_or o (record { from = 0; to = 0 }) → Stretch c r
+stretch c o e r w = go r.from r.to (ap (λ (l : Lent). l.from) (as_lent o e w)) (ap (λ (l : Lent). l.to) (as_lent o e w))
   where
-    as_lent : (o : Result (Range ℕ) Flaw) → lent_as o ≡ lent_of c → r ≡ result_unwrap_or o (record { start = 0; end = 0 }) →
-        ◌≡◌ {A = Lent} (record { number = (lent_as o).number; from = r.start; to = r.end }) (lent_of c)
+    as_lent : (o : Result Extent Flaw) → lent_as o ≡ lent_of c → r ≡ result_unwrap_or o (record { from = 0; to = 0 }) →
+        ◌≡◌ {A = Lent} (record { number = (lent_as o).number; from = r.from; to = r.to }) (lent_of c)
     as_lent (Ok x) e w = rw w e
     as_lent (Err y) e w = rw w e
 
-    go : (a b : ℕ) → a ≡ (lent_of c).from → b ≡ (lent_of c).to → Stretch c (record { start = a; end = b })
+    go : (a b : ℕ) → a ≡ (lent_of c).from → b ≡ (lent_of c).to → Stretch c (record { from = a; to = b })
     go a b x y =
         let l = lends c in
         record {
@@ -116,7 +116,7 @@ lent-flawed c BadLength j = let l = judged-length c j in rw (l, length_unformed 
 lent-flawed c Malformed j = let m = judged-malformed c j in rw (m.0, m.1)
 
 pub lent_formed : (c : List ℕ) (f : Frame) (e : ℕ) → Judges c (Ok f) → e ≡ data_at + f.size
-    → lent_as (Ok (record { start = data_at; end = e })) ≡ lent_of c
+    → lent_as (Ok (record { from = data_at; to = e })) ≡ lent_of c
 unfolding lent_of first_row
 lent_formed c f e j k =
     let h = judged_formed c f j in

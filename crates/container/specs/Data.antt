@@ -5,7 +5,7 @@ use Rattle.format.specs.Layout.{data_at, size_of, data_of}
 use Rattle.format.specs.Container.{well_formed, container_rows}
 use Rattle.format.specs.Judging.{flaw_number}
 use Rattle.format.specs.declared.judging.Flaw.{Flaw}
-use Rattle.std.specs.declared.ops.Range.{Range}
+use Rattle.container.specs.declared.data.Extent.{Extent}
 
 -- Where a slice points is a block and an offset: the place n bytes beyond another (docs/RULES.md, S35).
 abbrev pub beyond : ℕ × ℕ → ℕ → ℕ × ℕ
@@ -18,8 +18,8 @@ pub record Lent : Type 0 where
   pub to : ℕ
 
 -- What the code answers, as number and places.
-abbrev pub lent_as : Result (Range ℕ) Flaw → Lent
-lent_as (Ok r) = record { number = 0; from = r.start; to = r.end }
+abbrev pub lent_as : Result Extent Flaw → Lent
+lent_as (Ok d) = record { number = 0; from = d.from; to = d.to }
 lent_as (Err e) = record { number = flaw_number e; from = 0; to = 0 }
 
 -- Row 1, row 2 or 0, and where the data begin and end; on a refusal both are 0 (S37, S38).

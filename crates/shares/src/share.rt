@@ -95,10 +95,7 @@ pub fn check_container(c: &[u8]) -> Checked
     ensures { result ≡ checked_container c.now }
 {
     match container::data::find_data(c) {
-        Ok(lent) => {
-            let base = lent.start as u64;
-            checked_at(&c[lent], base)
-        }
+        Ok(lent) => checked_at(&c[lent.from..lent.to], lent.from as u64),
         Err(flaw) => refused(Edition::Sdmf, Refusal::from(flaw).number()),
     }
 }
