@@ -3,3 +3,4 @@ pub mod Scanning
 pub mod Numerals
 pub mod Items
 pub mod Commands
+pub mod Faults
