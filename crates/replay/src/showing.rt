@@ -5,7 +5,7 @@ ghost use Rattle.format.specs.Judging.{Known};
 ghost use Rattle.requests.specs.Forms.{TableIn};
 
 use crate::listing;
-use crate::printing::{Ascii, Hex};
+use crate::printing::{Ascii, Hex, Pair};
 use format::judging::Flaw;
 use format::layout::{EXPIRY_AT, FIXED_PLACES, Frame, LEASES_AT, RECORD_SIZE};
 use lists::list::LIST_LENGTH;
@@ -55,7 +55,7 @@ fn row<W: Write>(
         if listing::named(list, from.saturating_add(i)) {
             write!(out, "-- ")?;
         } else {
-            write!(out, "{byte:02X} ")?;
+            write!(out, "{} ", Pair::of(*byte))?;
         }
     }
     for _ in bytes.len()..ROW {
@@ -84,39 +84,39 @@ fn bytes<W: Write>(
     Ok(())
 }
 
-// An outcome by its number, which is what the answer has for C, and in words if it has any.
+// An outcome by its number, which is what the answer has for C, and in words if it has any. Both in one piece, here and in
+// what stands before them, since each piece of a format is a write of its own.
 #[derive(Clone, Copy)]
 struct Outcome(u32);
 
 impl fmt::Display for Outcome {
     fn fmt<W: fmt::Write>(&self, f: &mut fmt::Formatter<W>) -> fmt::Result {
         let number = self.0;
-        let words = match number {
-            0 => "done",
-            1 => "bad buffer length",
-            2 => "not well formed",
-            3 => "malformed request or argument",
-            4 => "offset before the start",
-            5 => "wrong write enabler",
-            7 => "reply space too short",
-            8 => "test is false",
-            9 => "no such lease",
-            10 => "sixty-four leases already",
-            11 => "no room",
-            12 => "already a container",
-            13 => "too many never-written stretches",
-            16 => "the list is not good",
+        f.write_str(match number {
+            0 => " 0 done",
+            1 => " 1 bad buffer length",
+            2 => " 2 not well formed",
+            3 => " 3 malformed request or argument",
+            4 => " 4 offset before the start",
+            5 => " 5 wrong write enabler",
+            7 => " 7 reply space too short",
+            8 => " 8 test is false",
+            9 => " 9 no such lease",
+            10 => "10 sixty-four leases already",
+            11 => "11 no room",
+            12 => "12 already a container",
+            13 => "13 too many never-written stretches",
+            16 => "16 the list is not good",
             _ => return write!(f, "{number}"),
-        };
-        write!(f, "{number:>2} {words}")
+        })
     }
 }
 
-// What was done, and what it was answered.
+// What was done, in sixteen columns, and what it was answered.
 fn answer<W: Write>(out: &mut W, what: &str, answer: Answer) -> io::Result<()> {
     let outcome = Outcome(answer.number);
     let count = answer.count;
-    write!(out, "{what:16}{outcome}, count {count}")?;
+    write!(out, "{what}{outcome}, count {count}")?;
     if answer.number == Refusal::WrongEnabler.number() {
         let node = answer.node;
         write!(out, ", node {}", Hex(&node))?;
@@ -125,21 +125,21 @@ fn answer<W: Write>(out: &mut W, what: &str, answer: Answer) -> io::Result<()> {
 }
 
 pub(crate) fn created<W: Write>(out: &mut W, x: Answer) -> io::Result<()> {
-    answer(out, "create", x)
+    answer(out, "create          ", x)
 }
 
-// What kind of request it is, by its first byte.
+// What kind of request it is, by its first byte, in sixteen columns.
 fn kind(request: &[u8]) -> &'static str {
     if request.is_empty() {
-        return "empty request";
+        return "empty request   ";
     }
     match Kind::try_from(Cursor::start().byte(request).value) {
-        Ok(Kind::TestWrite) => "test-and-write",
-        Ok(Kind::Add) => "add a lease",
-        Ok(Kind::Renew) => "renew a lease",
-        Ok(Kind::Cancel) => "cancel a lease",
-        Ok(Kind::Read) => "read",
-        Err(NoKind) => "unknown kind",
+        Ok(Kind::TestWrite) => "test-and-write  ",
+        Ok(Kind::Add) => "add a lease     ",
+        Ok(Kind::Renew) => "renew a lease   ",
+        Ok(Kind::Cancel) => "cancel a lease  ",
+        Ok(Kind::Read) => "read            ",
+        Err(NoKind) => "unknown kind    ",
     }
 }
 
