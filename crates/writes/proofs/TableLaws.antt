@@ -198,11 +198,12 @@ reaching_start t size v k n =
     rw n (record { body = t.bodies.at; rest = rest_start _ t k; small = omega arith; reached = refl })
 
 module _ {q : List ℕ} {ws : List Write} {size v at after : ℕ} (R : Reaching q ws size v at after) where
-  -- e is the next entry, and r what its offset is resolved to.
-  module _ {e : Entry} {r : Option ℕ} (o : Octets q) (some : 0 < v) (is : e ≡ entry_at at entry_size q)
-      (g : r ≡ resolved_of (to_z w32 (of_z w32 e.offset)) after) where
+  -- e is the next entry, and r what its offset is resolved to on the size n: whoever resolves it shows that n is the
+  -- size so far.
+  module _ {e : Entry} {r : Option ℕ} {n : ℕ} (o : Octets q) (some : 0 < v) (is : e ≡ entry_at at entry_size q)
+      (g : r ≡ resolved_of (to_z w32 (of_z w32 e.offset)) n) (same : n ≡ after) where
     resolved : r ≡ resolved_of (entry_offset at q) after
-    resolved = entry_resolved at q after e.offset r o (ap (λ (x : Entry). x.offset) is) g
+    resolved = entry_resolved at q after e.offset r o (ap (λ (x : Entry). x.offset) is) (rw same at g)
 
     pub reaching_taken : (p : ℕ) → r ≡ Some p → Taken q v at R.body after e p
     reaching_taken p h = record {

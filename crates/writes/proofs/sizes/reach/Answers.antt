@@ -16,19 +16,19 @@ pub returns-in_err-place : goal.returns-in_err-place
 returns-in_err-place c =
     let octets : Octets c.args.q.now = λ i. omega (arith, c.type_inv.q i) in
     c.from_residual.ensures
-    ∙ reaching_none c.loop.invariant octets (omega arith) c.entry-entry.ensures c.resolve.ensures c.in_err-place.was
+    ∙ reaching_none c.loop.invariant octets (omega arith) c.entry-entry.ensures c.resolve.ensures (omega arith) c.in_err-place.was
 
 pub grown-after-requires : goal.grown-after-requires
 grown-after-requires c =
     let octets : Octets c.args.q.now = λ i. omega (arith, c.type_inv.q i) in
     let R = c.loop.invariant in
-    entry_bounds (reaching_taken R octets (omega arith) c.entry-entry.ensures c.resolve.ensures _ c.in_ok-place.was)
+    entry_bounds (reaching_taken R octets (omega arith) c.entry-entry.ensures c.resolve.ensures (omega arith) _ c.in_ok-place.was)
     octets c.requires.0.short _ c.requires.1 R.small
 
 pub loop-preserved : goal.loop-preserved
 loop-preserved c =
     let octets : Octets c.args.q.now = λ i. omega (arith, c.type_inv.q i) in
-    reaching_next c.loop.invariant octets (omega arith) c.entry-entry.ensures c.resolve.ensures _ c.in_ok-place.was
+    reaching_next c.loop.invariant octets (omega arith) c.entry-entry.ensures c.resolve.ensures (omega arith) _ c.in_ok-place.was
     _ _ c.grown-after.ensures (omega arith)
 
 pub returns : goal.returns
