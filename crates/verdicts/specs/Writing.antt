@@ -32,7 +32,7 @@ verdict_of p w n = record {
 abbrev pub lengths_of : Judgement → Due
 lengths_of j = record { reply = j.reply; size = j.size }
 
--- What is due by the lengths: none where row 4 applies, since then they mean nothing.
+-- What is due by the lengths: nothing where row 4 applies, though `lengths_of` tells them there too.
 abbrev pub due_of : Judgement → Option Due
 due_of j = cond (eqb j.number 4) None (Some (lengths_of j))
 

@@ -12,8 +12,9 @@ use Rattle.rules.specs.declared.Answer.{Answer}
 use Rattle.requests.specs.declared.forms.Parted.{Parted}
 use Rattle.std.specs.Prelude.{Result, Ok, Err}
 use Rattle.rules.specs.Refusals.{number_of}
-use Rattle.rules.proofs.RefusalLaws.{refusal_replies}
+use Rattle.rules.proofs.RefusalLaws.{refusal_replies, refusal_silent}
 use Rattle.rules.specs.declared.outcomes.Refusal.{Refusal}
+use Rattle.rules.specs.declared.outcomes.Refusal.TheVariants.{WrongEnabler}
 use Rattle.verdicts.specs.declared.writing.Due.{Due}
 use Rattle.verdicts.specs.declared.writing.Verdict.{Verdict}
 use Rattle.verdicts.specs.declared.writing.Verdict.TheVariants.{TestFalse, Accepted}
@@ -88,13 +89,21 @@ module _ {c q r : List ℕ} {f : Frame} {t : Parted} {v : Result Verdict Refusal
   Results x e s = (x ≡ answered c q r) × ((e ≡ container_after c q r) × (s ≡ reply_after c q r))
 
   -- A refused request writes nothing, and only 5 names the node.
-  pub refused : {k : Refusal} → v ≡ Err k → {x : Answer}
+  refused : {k : Refusal} → v ≡ Err k → {x : Answer}
       → x ≡ answer_of (number_of k) (cond (eqb (number_of k) 5) (node_of c) no_node) 0 → Results x c r
   unfolding answered container_after reply_after answer_to parts_of
   refused {k} e i =
       let n : outcome c q (length r) ≡ number_of k = number_is ∙ ap verdict_number e in
       let z = refusal_replies k in
       (rw (n, G.request.is, z, i), (rw (n, refused_writes (number_of k) z), rw (n, z)))
+
+  pub differs : v ≡ Err WrongEnabler → {x : Answer} → x ≡ answer_of 5 (node_of c) 0 → Results x c r
+  differs e i = refused e i
+
+  -- The count is a number of its own here: whoever answers shows that it is 0.
+  pub other : {k : Refusal} → v ≡ Err k → (k ≡ WrongEnabler → ⊥) → {x : Answer} {n m : ℕ}
+      → x ≡ answer_of n no_node m → n ≡ number_of k → m ≡ 0 → Results x c r
+  other {k} e h i n m = refused e (rw (refusal_silent k h).no_node_holds (rw (n, m) at i))
 
   -- On 0 and 8 the reply is written.
   replied : (k m : ℕ) → verdict_number v ≡ k → replies k ≡ true

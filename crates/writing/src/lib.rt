@@ -17,17 +17,6 @@ use rules::Answer;
 use rules::outcomes::Refusal;
 use verdicts::writing::{Verdict, commit, verdict_of};
 
-// Answers a refusal. That of the write enabler names the node.
-fn refuse(c: &[u8], refusal: Refusal) -> Answer
-    requires { least ≤ length c.now }
-    ensures { result ≡ answer_of (number_of refusal) (cond (eqb (number_of refusal) 5) (node_of c.now) no_node) 0 }
-{
-    match refusal {
-        Refusal::WrongEnabler => Answer::wrong_enabler(c),
-        _ => Answer::refused(refusal),
-    }
-}
-
 // Answers a verdict: the reply is written where nothing refuses the request, and the container is committed where it is
 // accepted.
 pub fn settle(
@@ -46,7 +35,12 @@ pub fn settle(
 {
     let verdict = match verdict {
         Ok(verdict) => verdict,
-        Err(refusal) => return refuse(c, refusal),
+        Err(refusal) => {
+            return match refusal {
+                Refusal::WrongEnabler => Answer::wrong_enabler(c),
+                _ => Answer::numbered(refusal.number(), 0),
+            };
+        }
     };
     let to = frame.data_end();
     replies::reply::write_reply(&c[DATA_AT..to], q, t.tests, r);

@@ -1,18 +1,25 @@
 -- The verdict decides, and each exit is what the rules make of it.
-use mathlib.Core.Path.{◌≡◌, ap, ◌∙◌}
+use mathlib.Core.Path.{ap, ◌∙◌}
 use native.Mathlib.Omega.{arith}
-use Rattle.std.specs.Prelude.{Ok}
+use Rattle.std.specs.Prelude.{Ok, Err}
 use Rattle.format.proofs.KnownLaws.{known_room, data_lent_lem, lent_small}
-use Rattle.writing.proofs.WriteRequestLaws.{Writing, writing, decided, refused, reply_fits, failed, done}
+use Rattle.writing.proofs.WriteRequestLaws.{Writing, writing, decided, differs, other}
+use Rattle.writing.proofs.WriteRequestLaws.{reply_fits, failed, done}
 use Rattle.writing.proofs.settle.Goals as goal
 
-pub refuse-requires : goal.refuse-requires
-refuse-requires c = omega (arith, known_room c.requires.0)
+pub wrong_enabler-requires : goal.wrong_enabler-requires
+wrong_enabler-requires c = omega (arith, known_room c.requires.0)
 
-pub returns-in-Err : goal.returns-in-Err
-returns-in-Err c =
+pub returns-in-WrongEnabler : goal.returns-in-WrongEnabler
+returns-in-WrongEnabler c =
     let G : let a = c.args in Writing a.c.now a.q.now a.r.now a.frame a.t a.verdict = writing c.requires in
-    let both = refused G c.in-Err.is c.refuse.ensures in
+    let both = differs G (c.in-Err.is ∙ ap Err c.in-WrongEnabler.is) c.wrong_enabler.ensures in
+    record { value = both.0; c_after = both.1.0; r_after = both.1.1 }
+
+pub returns-in_default : goal.returns-in_default
+returns-in_default c =
+    let G : let a = c.args in Writing a.c.now a.q.now a.r.now a.frame a.t a.verdict = writing c.requires in
+    let both = other G c.in-Err.is c.in_default.not-WrongEnabler c.numbered.ensures c.number.ensures (omega arith) in
     record { value = both.0; c_after = both.1.0; r_after = both.1.1 }
 
 pub data_end-to-requires : goal.data_end-to-requires
