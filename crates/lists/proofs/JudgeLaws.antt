@@ -1,24 +1,31 @@
 -- Rows judged one by one, and a list as it is judged. Assumes nothing.
 use mathlib.Core.Path.{◌≡◌, refl, sym, ap, ap₂, ◌∙◌}
 use mathlib.Core.Bool.{Bool, true, false, ◌&&◌}
-use mathlib.Core.List.{List, ◌∷◌}
+use mathlib.Core.List.{List, [], ◌∷◌}
 use Prim.Native.Nat.{ℕ, zero, suc, ◌+◌, ◌*◌, ◌-◌, ◌≤◌, ◌<◌}
 use native.Mathlib.Nat.{add-zero}
 use native.Mathlib.Omega.{arith}
 use lib.ListN.{length, take, drop, length-take}
 use lib.Seq.{take_all}
-use lib.Dec.{leb, ltb}
+use lib.Dec.{eqb, leb, ltb}
 use borrow.Author.Tests.{lt-ltb, le-ltb, le-leb, lt-leb, leb-true, eq-eqb, ne_eqb}
+use Rattle.std.specs.List.{list_all}
 use Rattle.octets.specs.Lists.{every}
 use Rattle.octets.specs.Numbers.{number, number_at}
 use Rattle.octets.specs.Strings.{all_zero}
-use Rattle.octets.proofs.ListLaws.{both, part_part}
+use Rattle.octets.proofs.ListLaws.{both, cond-false, part_part}
 use Rattle.octets.proofs.StringLaws.{tail_is}
 use Rattle.stretches.specs.Stretches.{Stretch, stretch, rising}
 use Rattle.stretches.specs.List.{list_length, row_limit, rows_at, row_size, row_count, rows_from, stretches_of}
 use Rattle.stretches.specs.List.{zero_in, list_ok}
 use Rattle.lists.specs.declared.rows.Span.{Span}
 use Rattle.lists.specs.Spans.{span_at, span_ok}
+
+-- ---- bytes one by one
+pub zero_each : (s : List ℕ) → list_all (λ x. eqb x 0) s ≡ all_zero s
+unfolding all_zero
+zero_each [] = refl
+zero_each (x ∷ s) = rw (zero_each s) (sym (cond-false (eqb x 0) (all_zero s)))
 
 -- ---- a row judged
 module _ (low : ℕ) (s : Span) (d : List ℕ) where

@@ -1,6 +1,7 @@
 // The list as bytes, judged where it lies.
 ghost use Rattle.std.specs.Prelude.{◌≡◌, ◌&&◌, ◌+◌, ◌*◌, ◌≤◌, length};
 ghost use Rattle.octets.specs.Lists.{every};
+ghost use Rattle.octets.specs.Strings.{all_zero};
 ghost use Rattle.stretches.specs.Stretches.{rising};
 ghost use Rattle.stretches.specs.List.{row_limit, row_size, rows_from, zero_in, list_ok};
 ghost use Rattle.lists.specs.Spans.{span_ok};
@@ -14,15 +15,26 @@ pub const ROW_LIMIT: usize = 256;
 
 pub const ROWS_AT: usize = 4;
 
+// From so many bytes on, a test for zeros is worth a call.
+const LONG: usize = 16;
+
+// Whether each byte is 0. A list may have a row for each byte, and a call takes longer than looking at it here.
+fn zeros(s: &[u8]) -> bool
+    ensures { result ≡ all_zero s.now }
+{
+    if s.len() < LONG {
+        s.iter().all(|byte| *byte == 0)
+    } else {
+        octets::strings::all_zero(s)
+    }
+}
+
 // Whether a row is not empty, starts at `low` or above, ends inside the data, and names only zeros.
 #[tactic(auto, unfolding(crate::specs::Spans::span_ok))]
 fn row_ok(row: Span, low: usize, d: &[u8]) -> bool
     ensures { result ≡ span_ok low row d.now }
 {
-    low <= row.from
-        && row.from < row.to
-        && row.to <= d.len()
-        && octets::strings::all_zero(&d[row.from..row.to])
+    low <= row.from && row.from < row.to && row.to <= d.len() && zeros(&d[row.from..row.to])
 }
 
 // Whether the n rows of a table are in order, apart, inside the data, and name only zeros.
