@@ -5,12 +5,36 @@ use crate::printing::Run;
 use std::io;
 use std::io::Write;
 
+const BLOCK: usize = 64;
+
+// Where whole blocks of unchanged bytes from `at` on end. Most bytes of a buffer stay, and byte by byte they are passed over
+// much more slowly.
+fn blocks_end(before: &[u8], after: &[u8], at: usize) -> usize
+    requires { (at ≤ length before.now) × (length before.now ≡ length after.now) }
+    ensures { (at ≤ result) × (result ≤ length before.now) }
+{
+    let count = (before.len() - at) / BLOCK;
+    for i in 0..count {
+        let from = at + BLOCK * i;
+        let to = from + BLOCK;
+        if !octets::strings::same(&before[from..to], &after[from..to]) {
+            return from;
+        }
+    }
+    at + BLOCK * count
+}
+
 // Where a run of changed or of unchanged bytes that goes on at `at` ends.
 fn run_end(before: &[u8], after: &[u8], at: usize, changed: bool) -> usize
     requires { (at ≤ length before.now) × (length before.now ≡ length after.now) }
     ensures { (at ≤ result) × (result ≤ length before.now) }
 {
-    for i in at..before.len() {
+    let from = if changed {
+        at
+    } else {
+        blocks_end(before, after, at)
+    };
+    for i in from..before.len() {
         if (before[i] != after[i]) != changed {
             return i;
         }

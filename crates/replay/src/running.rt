@@ -130,7 +130,8 @@ impl Slot {
     // Shows what the request changed too.
     fn watch<W: Write>(&mut self, out: &mut W, request: &[u8], reply: &mut [u8]) -> io::Result<()> {
         let len = self.container.len;
-        let before = self.container.bytes;
+        let mut before = [0; BUFFER_SIZE];
+        before[..len].copy_from_slice(&self.container.bytes[..len]);
         self.apply(out, request, reply)?;
         changing::show(out, &before[..len], &self.container.bytes[..len])
     }
