@@ -18,7 +18,7 @@ pub const ROWS_AT: usize = 4;
 // From so many bytes on, a test for zeros is worth a call.
 const LONG: usize = 16;
 
-// Whether each byte is 0. A list may have a row for each byte, and a call takes longer than looking at it here.
+// Whether each byte is 0. A list's rows may be a byte each, and a call for each takes longer than looking at them here.
 fn zeros(s: &[u8]) -> bool
     ensures { result ≡ all_zero s.now }
 {

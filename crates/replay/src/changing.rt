@@ -7,8 +7,8 @@ use std::io::Write;
 
 const BLOCK: usize = 64;
 
-// Where whole blocks of unchanged bytes from `at` on end. Most bytes of a buffer stay, and byte by byte they are passed over
-// much more slowly.
+// The end of the whole blocks of unchanged bytes from `at` on. Most bytes of a buffer stay, and passing them over one by one
+// takes much longer.
 fn blocks_end(before: &[u8], after: &[u8], at: usize) -> usize
     requires { (at ≤ length before.now) × (length before.now ≡ length after.now) }
     ensures { (at ≤ result) × (result ≤ length before.now) }

@@ -89,7 +89,7 @@ module _ {c q r : List ℕ} {f : Frame} {t : Parted} {v : Result Verdict Refusal
   Results x e s = (x ≡ answered c q r) × ((e ≡ container_after c q r) × (s ≡ reply_after c q r))
 
   -- A refused request writes nothing, and only 5 names the node.
-  refused : {k : Refusal} → v ≡ Err k → {x : Answer}
+  pub refused : {k : Refusal} → v ≡ Err k → {x : Answer}
       → x ≡ answer_of (number_of k) (cond (eqb (number_of k) 5) (node_of c) no_node) 0 → Results x c r
   unfolding answered container_after reply_after answer_to parts_of
   refused {k} e i =
@@ -103,7 +103,7 @@ module _ {c q r : List ℕ} {f : Frame} {t : Parted} {v : Result Verdict Refusal
   -- The count is a number of its own here: whoever answers shows that it is 0.
   pub other : {k : Refusal} → v ≡ Err k → (k ≡ WrongEnabler → ⊥) → {x : Answer} {n m : ℕ}
       → x ≡ answer_of n no_node m → n ≡ number_of k → m ≡ 0 → Results x c r
-  other {k} e h i n m = refused e (rw (refusal_silent k h).no_node_holds (rw (n, m) at i))
+  other {k} e h i is none = refused e (rw (refusal_silent k h).no_node_holds (rw (is, none) at i))
 
   -- On 0 and 8 the reply is written.
   replied : (k m : ℕ) → verdict_number v ≡ k → replies k ≡ true

@@ -38,6 +38,7 @@ pub fn settle(
         Err(refusal) => {
             return match refusal {
                 Refusal::WrongEnabler => Answer::wrong_enabler(c),
+                // Not `Answer::refused`: count_on_refusal.edit tells another count here.
                 _ => Answer::numbered(refusal.number(), 0),
             };
         }
