@@ -242,6 +242,35 @@ module _ {q : List ℕ} {ws : List Write} {size v at after : ℕ} (R : Reaching 
   reaching_end h = rw (none_left v at R.body q h) at R.reached
 
 -- ---- the walk whatever the offsets name
+-- With the end of the last gap so far, the writes that are left leave that of all of them, ws.
+pub record Baring (q : List ℕ) (ws : List Write) (size v at after gap : ℕ) : Type 0 where
+  pub body : ℕ
+  pub rest : Rest q v at body
+  pub small : after ≤ most_on_the_way size body
+  pub bared : last_gap (placed (writes_from v at body q) after) after gap ≡ last_gap (placed ws size) size size
+
+pub baring_start : {q : List ℕ} (t : Parted) (size v : ℕ) → PartedIn q t → v ≡ t.writes.count
+    → Baring q (writes_in t q) size v t.writes.first.at size size
+baring_start t size v k n =
+    rw n (record { body = t.bodies.at; rest = rest_start _ t k; small = omega arith; bared = refl })
+
+module _ {q : List ℕ} {ws : List Write} {size v at after gap : ℕ} (B : Baring q ws size v at after gap) where
+  pub baring_next : {e : Entry} {p : ℕ} → Taken q v at B.body after e p → (next behind w : ℕ)
+      → next ≡ grow after p e.count → behind ≡ gap_end gap after p e.count → suc w ≡ v
+      → Baring q ws size w e.next.at next behind
+  baring_next K next behind w h k n =
+      let m : w ≡ v - 1 = omega arith in
+      rw m (record {
+        body = _;
+        rest = entry_rest K;
+        small = rw h (entry_small K size B.small);
+        bared = rw (h, k) (sym (entry_gap K gap) ∙ B.bared);
+      })
+
+  pub baring_end : v ≤ 0 → gap ≡ last_gap (placed ws size) size size
+  unfolding placed last_gap
+  baring_end h = rw (none_left v at B.body q h) at B.bared
+
 -- With the size and the end of the last gap so far, the writes that are left lead to the size and leave the last gap of
 -- all of them, ws.
 pub record Walking (q : List ℕ) (ws : List Write) (size v at after gap : ℕ) : Type 0 where
@@ -274,9 +303,12 @@ module _ {q : List ℕ} {ws : List Write} {size v at after gap : ℕ} (W : Walki
   unfolding placed size_all
   walking_sized h = rw (none_left v at W.body q h) at W.sized
 
+  -- What it says of the last gap alone.
+  pub walking_baring : Baring q ws size v at after gap
+  walking_baring = record { body = W.body; rest = W.rest; small = W.small; bared = W.bared }
+
   pub walking_bared : v ≤ 0 → gap ≡ last_gap (placed ws size) size size
-  unfolding placed last_gap
-  walking_bared h = rw (none_left v at W.body q h) at W.bared
+  walking_bared = baring_end walking_baring
 
 -- ---- the loop that writes
 -- The writes that are left, put into the present data d, give what all of them, ws, give in the first data a.
